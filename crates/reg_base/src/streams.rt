@@ -1,0 +1,89 @@
+//! Sources and sinks over the standard streams, which tell no bytes: the trusted edge.
+
+ghost use Rattle.std.specs.Prelude.{◌≡◌, None};
+
+use crate::errors::Failed;
+use crate::sink::Sink;
+use crate::source::Source;
+use std::io::{Read, Write};
+
+/// A source over a reader, as standard input.
+#[derive(Drop)]
+pub struct StdSource<R: Read> {
+    reader: R,
+    faults: u64,
+}
+
+impl<R: Read> StdSource<R> {
+    pub fn new(reader: R) -> StdSource<R>
+        ensures { result.faults ≡ 0 }
+    {
+        StdSource { reader, faults: 0 }
+    }
+}
+
+impl<R: Read> Source for StdSource<R> {
+    ghost left = { λ _. None };
+
+    ghost count = { λ s. s.faults };
+
+    fn read(&mut self, buf: &mut [u8]) -> Result<usize, Failed> {
+        match self.reader.read(buf) {
+            Ok(count) => Ok(count),
+            Err(_error) => {
+                self.faults = self.faults.saturating_add(1);
+                Err(Failed)
+            }
+        }
+    }
+
+    fn faults(&self) -> u64 {
+        self.faults
+    }
+}
+
+/// A sink over a writer, as standard output. Each piece is flushed.
+#[derive(Drop)]
+pub struct StdSink<W: Write> {
+    writer: W,
+    faults: u64,
+}
+
+impl<W: Write> StdSink<W> {
+    pub fn new(writer: W) -> StdSink<W>
+        ensures { result.faults ≡ 0 }
+    {
+        StdSink { writer, faults: 0 }
+    }
+}
+
+/// Writes all of the piece and flushes. A write that takes nothing of what is left is a fault.
+fn write_piece<W: Write>(writer: &mut W, piece: &[u8]) -> Result<(), Failed> {
+    let mut rest = piece;
+    while !rest.is_empty() {
+        match writer.write(rest) {
+            Ok(0) => return Err(Failed),
+            Ok(count) => rest = &rest[count..],
+            Err(_error) => return Err(Failed),
+        }
+    }
+    writer.flush().map_err(|_error| Failed)
+}
+
+impl<W: Write> Sink for StdSink<W> {
+    ghost held = { λ _. None };
+
+    ghost count = { λ s. s.faults };
+
+    fn write_all(&mut self, piece: &[u8]) -> Result<(), Failed> {
+        let written = write_piece(&mut self.writer, piece);
+        if written.is_err() {
+            self.faults = self.faults.saturating_add(1);
+        }
+        written
+    }
+
+    fn faults(&self) -> u64 {
+        self.faults
+    }
+}
