@@ -1,13 +1,12 @@
-// A library with one function.
+//! Regulatory rules: a range of frequencies, a width, a power and flags.
 #![tactic(auto)]
 
-ghost use Rattle.std.specs.Prelude.{◌≡◌};
-ghost use Rattle.freq_range.specs.Echo.{echo_of};
+mod errors;
+mod flags;
+mod list;
+mod rule;
 
-// The `ensures` clause is the contract: what `echo` returns is `echo_of` of its argument, a definition
-// in `specs/Echo.antt`, which a caller's clause can cite too.
-pub fn echo(x: usize) -> usize
-    ensures { result ≡ echo_of x }
-{
-    x
-}
+pub use errors::OutOfMemory;
+pub use flags::RuleFlags;
+pub use list::RuleList;
+pub use rule::Rule;
