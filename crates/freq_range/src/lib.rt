@@ -8,5 +8,5 @@ mod rule;
 
 pub use errors::OutOfMemory;
 pub use flags::RuleFlags;
-pub use list::RuleList;
+pub use list::{RuleList, contains_rule};
 pub use rule::Rule;

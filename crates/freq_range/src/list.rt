@@ -1,6 +1,6 @@
 //! A list of rules that grows.
 
-ghost use Rattle.std.specs.Prelude.{◌≡◌, ◌==◌, [], ◌∷◌, ◌++◌, length, slice_get, OnOk, OnErr};
+ghost use Rattle.std.specs.Prelude.{◌≡◌, ◌==◌, ◌↔◌, [], ◌∷◌, ◌++◌, length, slice_get, Contains, IsTrue, OnOk, OnErr};
 ghost use Rattle.std.specs.Option.{option_copied};
 
 use crate::errors::OutOfMemory;
@@ -68,4 +68,11 @@ impl RuleList {
     {
         self.items.as_slice()
     }
+}
+
+/// Whether some rule of the list is this one.
+pub fn contains_rule(rules: &[Rule], rule: &Rule) -> bool
+    ensures { IsTrue result ↔ Contains rules.now rule.now }
+{
+    rules.iter().any(|other| other.is_same(rule))
 }

@@ -1,0 +1,4 @@
+pub mod Code
+pub mod Databases
+pub mod Domains
+pub mod FileFormat

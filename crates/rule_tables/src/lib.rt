@@ -1,13 +1,10 @@
-// A library with one function.
+//! Domains of rules, and databases of domains in ascending order of their codes.
 #![tactic(auto)]
 
-ghost use Rattle.std.specs.Prelude.{◌≡◌};
-ghost use Rattle.rule_tables.specs.Echo.{echo_of};
+mod code;
+mod database;
+mod domain;
 
-// The `ensures` clause is the contract: what `echo` returns is `echo_of` of its argument, a definition
-// in `specs/Echo.antt`, which a caller's clause can cite too.
-pub fn echo(x: usize) -> usize
-    ensures { result ≡ echo_of x }
-{
-    x
-}
+pub use code::{Alpha2, Region};
+pub use database::{Db, DbInsertFault};
+pub use domain::{Domain, DomainFault};
