@@ -20,6 +20,11 @@ pub record IsLine (line : List ℕ) (form : Form) : Type 0 where
   pub is_text : IsText line
   pub has_form : IsForm (bare line) form
 
+-- the form of line k, counted from 0: the one with k lines above it
+abbrev pub form_at : List Form → ℕ → Option Form
+form_at [] k = None
+form_at (form ∷ above) k = if k == length above then Some form else form_at above k
+
 -- the last header above
 abbrev pub last_header : List Form → Option Header
 last_header [] = None

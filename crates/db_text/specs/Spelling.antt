@@ -72,7 +72,8 @@ pub record RuleSpelling : Type 0 where
 abbrev pub spelled_rule : RuleSpelling → List ℕ
 spelled_rule s = codes "(" ++ s.start ++ codes "-" ++ s.end ++ codes "@" ++ s.width ++ codes "),(" ++ s.power ++ codes ")" ++ flag_list s.flags
 
--- what is spelled means the rule: MHz as kHz, dBm as mBm, at most 655 dBm, no check time
+-- what is spelled means the rule: MHz as kHz (at most 4,294,967,295 kHz, since it is valid), dBm as mBm, at most 655 dBm,
+-- no check time
 pub record MeansRule (s : RuleSpelling) (rule : Rule) : Type 0 where
   pub start_number : IsNumber s.start
   pub end_number : IsNumber s.end

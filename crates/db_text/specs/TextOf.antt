@@ -1,5 +1,5 @@
 -- Which database a text stands for, and which of its lines is at fault where it stands for none.
-use Rattle.std.specs.Prelude.{◌≡◌, ℕ, ◌+◌, ◌<◌, ◌⊎◌, List, [], length, take, reverse, All, Contains, Some, slice_get}
+use Rattle.std.specs.Prelude.{◌≡◌, ℕ, ◌+◌, ◌<◌, ◌⊎◌, List, [], length, take, reverse, All, Contains, Some}
 use Rattle.freq_range.specs.First.{IsFirst}
 use Rattle.rule_tables.specs.Databases.{IsDb, HasCode}
 use Rattle.rule_tables.specs.declared.domain.Domain.{Domain}
@@ -9,7 +9,7 @@ use Rattle.db_text.specs.declared.fault.TextKind.TheVariants.{NotBuilt}
 use Rattle.db_text.specs.declared.form.Header.{Header}
 use Rattle.db_text.specs.declared.form.Form.{Form}
 use Rattle.db_text.specs.declared.form.Form.TheVariants.{HeaderLine}
-use Rattle.db_text.specs.Forms.{AreAccepted, rules_of}
+use Rattle.db_text.specs.Forms.{AreAccepted, form_at, rules_of}
 use Rattle.db_text.specs.Lines.{lines_of}
 
 -- the domain has the code and the region of a header, and the rules of that code
@@ -38,7 +38,7 @@ IsRefusedAt lines k = (k < length lines) × (AcceptsFirst lines (k + 1) → ⊥)
 -- line k, counted from 0, is a header whose code has no rules
 pub record IsBareHeaderAt (forms : List Form) (k : ℕ) : Type 0 where
   pub header : Header
-  pub here : slice_get (reverse forms) k ≡ Some (HeaderLine header)
+  pub here : form_at forms k ≡ Some (HeaderLine header)
   pub without_rules : rules_of header.alpha2 forms ≡ []
 
 -- line k, counted from 0, is the first at which the text isn't accepted; where there is none, the first header without rules

@@ -1,6 +1,7 @@
 //! Reads rule texts (`db.txt` of wireless-regdb).
 #![tactic(auto)]
 
+mod blocks;
 mod fault;
 mod form;
 

@@ -2,8 +2,8 @@
 use Rattle.std.specs.Prelude.{ℕ, ◌-◌, ◌^◌, ◌<◌, ◌≤◌}
 use Rattle.freq_range.specs.declared.rule.Rule.{Rule}
 
--- the range begins above 0, ends after its beginning and holds the width; the last three say that the numbers
--- fit the fields that hold them, which is so of every rule of the program
+-- The range begins above 0, ends after its beginning and holds the width. The last three say that the numbers fit the
+-- fields that hold them: it is these that keep a rule text to 4,294,967,295 kHz.
 pub record IsValidRule (r : Rule) : Type 0 where
   pub above_zero : 0 < r.start_khz
   pub in_order : r.start_khz < r.end_khz

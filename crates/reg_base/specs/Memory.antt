@@ -1,9 +1,5 @@
 -- What contracts see of the sources and sinks in memory.
-use Rattle.std.specs.Prelude.{ℕ, ◌+◌, ◌-◌, ◌^◌, List, min}
-
--- a count that rises by one, and stops at 2^64 - 1
-abbrev pub counted : ℕ → ℕ
-counted n = min (n + 1) (2 ^ 64 - 1)
+use Rattle.std.specs.Prelude.{ℕ, List}
 
 -- a source: the bytes left, and at most how many a read gives
 pub record Supply : Type 0 where

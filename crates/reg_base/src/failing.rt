@@ -1,11 +1,10 @@
 //! Sources and sinks in memory that fail at listed calls, to try what a caller does then.
 
-ghost use Rattle.std.specs.Prelude.{◌≡◌, ◌+◌, ◌<◌, ◌≤◌, ◌↔◌, ◌⊎◌, [], Some, length, Contains, IfOk, IsErr, IsTrue, OnErr};
+ghost use Rattle.std.specs.Prelude.{◌≡◌, ◌+◌, ◌<◌, ◌≤◌, ◌↔◌, ◌⊎◌, [], Some, length, Contains, IfOk, IsErr, IsTrue, MatchResult, OnErr};
 ghost use Rattle.std.specs.Io.{ReadsAtMost};
 ghost use Rattle.std.specs.Io.KnownBytes.{ReadConsumes};
-ghost use Rattle.reg_base.specs.Causes.{HasCause};
+ghost use Rattle.reg_base.specs.Causes.{HasCause, counted};
 ghost use Rattle.reg_base.specs.Appended.{AppendsAtMost};
-ghost use Rattle.reg_base.specs.Memory.{counted};
 
 use crate::bytes::Bytes;
 use crate::errors::{Failed, OutOfMemory};
@@ -113,6 +112,9 @@ impl Source for FailingSource {
         ensures bytes { ReadConsumes (Some self.old.left) (Some self.new.left) result buf.new }
         ensures cause { HasCause self.old.faults self.new.faults result }
         ensures fails { IsErr result ↔ Contains self.old.failing (counted self.old.calls) }
+        ensures faults { MatchResult result (λ _. self.new.faults ≡ self.old.faults) (λ _. self.new.faults ≡ counted self.old.faults) }
+        ensures within { IfOk result (λ n. n ≤ self.old.piece) }
+        ensures buffer { OnErr result (buf.new ≡ buf.old) }
         ensures failing { self.new.failing ≡ self.old.failing }
         ensures calls { self.new.calls ≡ counted self.old.calls }
         ensures piece { self.new.piece ≡ self.old.piece }
@@ -185,6 +187,7 @@ impl Sink for FailingSink {
         ensures failed { IsErr result ↔ (Contains self.old.failing (counted self.old.calls)
             ⊎ (self.old.room < length self.old.written + length piece.now)) }
         ensures nothing { OnErr result (self.new.written ≡ self.old.written) }
+        ensures faults { MatchResult result (λ _. self.new.faults ≡ self.old.faults) (λ _. self.new.faults ≡ counted self.old.faults) }
         ensures failing { self.new.failing ≡ self.old.failing }
         ensures calls { self.new.calls ≡ counted self.old.calls }
         ensures room { self.new.room ≡ self.old.room }

@@ -1,9 +1,9 @@
 //! Sources and sinks in memory, which fail only where a piece passes a sink's room.
 
-ghost use Rattle.std.specs.Prelude.{◌≡◌, ◌≤◌, ◌<◌, ◌+◌, [], ◌++◌, Option, Some, length, drop, take, min, IfOk, IsErr, OnErr, ◌↔◌};
+ghost use Rattle.std.specs.Prelude.{◌≡◌, ◌≤◌, ◌<◌, ◌+◌, ◌↔◌, [], Some, length, drop, take, min, IfOk, IsErr, MatchResult, OnErr};
 ghost use Rattle.std.specs.Io.{ReadsAtMost};
 ghost use Rattle.std.specs.Io.KnownBytes.{ReadConsumes};
-ghost use Rattle.reg_base.specs.Causes.{HasCause};
+ghost use Rattle.reg_base.specs.Causes.{HasCause, counted};
 ghost use Rattle.reg_base.specs.Appended.{AppendsAtMost};
 
 use crate::bytes::Bytes;
@@ -131,6 +131,7 @@ impl Sink for MemSink {
         ensures cause { HasCause self.old.faults self.new.faults result }
         ensures failed { IsErr result ↔ (self.old.room < length self.old.written + length piece.now) }
         ensures nothing { OnErr result (self.new.written ≡ self.old.written) }
+        ensures faults { MatchResult result (λ _. self.new.faults ≡ self.old.faults) (λ _. self.new.faults ≡ counted self.old.faults) }
         ensures room { self.new.room ≡ self.old.room }
     {
         if piece.len() > self.room - self.bytes.len()

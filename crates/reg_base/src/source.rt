@@ -14,8 +14,8 @@ pub trait Source {
 
     ghost count: { Self → ℕ };
 
-    /// Moves the next bytes into the front of the buffer, and answers how many. None are left exactly
-    /// where it answers 0. `Failed` takes no byte, and comes only where the count rose.
+    /// Moves the next bytes into the front of the buffer, and answers how many: 0 exactly where none
+    /// were left. `Failed` takes no byte, and comes only where the count rose.
     fn read(&mut self, buf: &mut [u8]) -> Result<usize, Failed>
         requires { 0 < length buf.old }
         ensures bound { ReadsAtMost result buf.new }

@@ -1,5 +1,5 @@
 -- What a database of domains has to be.
-use Rattle.std.specs.Prelude.{◌≡◌, ◌≢◌, ℕ, ◌<◌, ◌≤◌, List, [], ◌++◌, length, All, AllPairs, Contains, slice_index_or, insert}
+use Rattle.std.specs.Prelude.{◌≡◌, ℕ, ◌<◌, ◌≤◌, List, length, All, AllPairs, Contains, slice_index_or, insert}
 use Rattle.freq_range.specs.First.{IsFirst}
 use Rattle.freq_range.specs.declared.rule.Rule.{Rule}
 use Rattle.rule_tables.specs.declared.code.Alpha2.{Alpha2}

@@ -1,6 +1,6 @@
 -- What the bytes of a `regulatory.db` of version 20 say, by places. All numbers are big-endian, and a pointer is the
 -- place of a record divided by 4. `docs/FORMATS.md` has the format in words.
-use Rattle.std.specs.Prelude.{◌≡◌, ◌≢◌, ℕ, ◌+◌, ◌*◌, ◌/◌, ◌%◌, ◌<◌, ◌≤◌, ◌==◌, ◌⊎◌, Bool, nat_le, List, [], ◌∷◌, length, All, Contains, slice_index, slice_index_or, if◌then◌else◌}
+use Rattle.std.specs.Prelude.{◌≡◌, ◌≢◌, ℕ, ◌+◌, ◌*◌, ◌/◌, ◌%◌, ◌<◌, ◌≤◌, ◌==◌, ◌⊎◌, Bool, nat_le, List, [], ◌∷◌, ◌++◌, length, reverse, All, Contains, slice_index, slice_index_or, if◌then◌else◌}
 use Rattle.byteorder.specs.Endian.{big_from}
 use Rattle.freq_range.specs.First.{IsFirst}
 use Rattle.freq_range.specs.Valid.{IsValidRule}
@@ -64,14 +64,14 @@ pub record RuleAt (b : List ℕ) (i : ℕ) (r : Rule) : Type 0 where
 abbrev pub RulesAt : List ℕ → ℕ → List Rule → Type 0
 RulesAt b i rules = (k : ℕ) (d : Rule) → k < length rules → RuleAt b (target_at b (i + 2 * k)) (slice_index_or rules k d)
 
--- What is left of the rules read where each one that was seen before is dropped.
-abbrev pub DropsRepeats : List Rule → List Rule → List Rule → Type 0
-DropsRepeats seen [] kept = kept ≡ []
-DropsRepeats seen (r ∷ read) kept =
-    (Contains seen r × DropsRepeats seen read kept)
-    ⊎ ((Contains seen r → ⊥) × (rest : List Rule) × (kept ≡ r ∷ rest) × DropsRepeats (r ∷ seen) read rest)
+-- What is kept of the rules read where each one that stands earlier is dropped. The rules read come with the last one
+-- first, so that those behind one are the earlier ones; the rules kept stand in order.
+abbrev pub DropsRepeats : List Rule → List Rule → Type 0
+DropsRepeats [] kept = kept ≡ []
+DropsRepeats (r ∷ earlier) kept = (rest : List Rule) × DropsRepeats earlier rest
+    × ((Contains earlier r × (kept ≡ rest)) ⊎ ((Contains earlier r → ⊥) × (kept ≡ rest ++ r ∷ [])))
 
--- where the pointers of the collection at place i begin: behind its first bytes, rounded up to 2
+-- where the pointers of the collection at place i begin: behind its `len` bytes, `len` rounded up to 2
 abbrev pub pointers_of : List ℕ → ℕ → ℕ
 pointers_of b i = i + (u8_at b i + 1) / 2 * 2
 
@@ -84,7 +84,7 @@ pub record CollectionAt (b : List ℕ) (i : ℕ) (region : Region) (rules : List
   pub few : u8_at b (i + 1) ≤ 128
   pub region_byte : u8_at b (i + 2) ≡ region_number region
   pub pointers_in_file : pointers_of b i + 2 * u8_at b (i + 1) ≤ length b
-  pub rules_read : (read : List Rule) × (length read ≡ u8_at b (i + 1)) × RulesAt b (pointers_of b i) read × DropsRepeats [] read rules
+  pub rules_read : (read : List Rule) × (length read ≡ u8_at b (i + 1)) × RulesAt b (pointers_of b i) read × DropsRepeats (reverse read) rules
 
 -- The four bytes at place i are the entry of the domain d: its code, and a pointer to its collection.
 pub record EntryAt (b : List ℕ) (i : ℕ) (d : Domain) : Type 0 where

@@ -1,10 +1,10 @@
 //! A database: domains in ascending order of their codes.
 
-ghost use Rattle.std.specs.Prelude.{◌≡◌, ◌==◌, ◌<◌, ◌≤◌, ◌↔◌, ℕ, [], All, Contains, IfErr, IfOk, IsTrue, IfNone, IfSome, OnErr, OnOk, MatchOption, MatchResult, find, length, slice_get, slice_index_or};
+ghost use Rattle.std.specs.Prelude.{◌≡◌, ◌==◌, ◌<◌, ◌≤◌, ℕ, [], Contains, IfErr, OnErr, OnOk, MatchOption, length, slice_get, slice_index_or};
 ghost use Rattle.std.specs.Option.{option_copied};
 ghost use Rattle.freq_range.specs.First.{IsFirst};
 ghost use Rattle.rule_tables.specs.Code.{key};
-ghost use Rattle.rule_tables.specs.Domains.{AreDistinct, AreRules};
+ghost use Rattle.rule_tables.specs.Domains.{AreDistinct};
 ghost use Rattle.rule_tables.specs.Databases.{IsDb, IsDomain, HasCode, IsRepeatedAt, IsInsertFault, Inserts};
 ghost use Rattle.rule_tables.specs.declared.domain.Domain.{Domain};
 
@@ -82,10 +82,10 @@ fn place_of(domains: &[Domain], alpha2: &Alpha2) -> usize
 }
 
 /// The first domain of this code.
-fn find_in<'a>(domains: &'a [Domain], alpha2: &Alpha2) -> Option<&'a Domain>
-    ensures { MatchOption result (HasCode domains.now alpha2.now → ⊥) (λ d. Contains domains.now d.now × (d.now.alpha2 ≡ alpha2.now)) }
+fn find_in(domains: &[Domain], alpha2: Alpha2) -> Option<&Domain>
+    ensures { MatchOption result (HasCode domains.now alpha2 → ⊥) (λ d. Contains domains.now d.now × (d.now.alpha2 ≡ alpha2)) }
 {
-    domains.iter().find(|domain| domain.alpha2.is_same(alpha2))
+    domains.iter().find(|domain| domain.alpha2.is_same(&alpha2))
 }
 
 /// Why the domain isn't taken among these, if anything speaks against it.
@@ -94,7 +94,7 @@ fn refusal(domains: &[Domain], domain: &Domain) -> Option<DbInsertFault>
         ((HasCode domains.now domain.now.alpha2 → ⊥) × IsDomain domain.now)
         (IsInsertFault domains.now domain.now) }
 {
-    if find_in(domains, &domain.alpha2).is_some() {
+    if find_in(domains, domain.alpha2).is_some() {
         return Some(DbInsertFault::Twice);
     }
     if !domain.alpha2.is_code() {
@@ -112,7 +112,8 @@ fn refusal(domains: &[Domain], domain: &Domain) -> Option<DbInsertFault>
 impl Db {
     /// No domains. It takes no memory until the first one comes.
     pub fn new(alloc: Global) -> Db
-        ensures { result ≡ [] }
+        ensures empty { result ≡ [] }
+        ensures db { IsDb result }
     {
         Db {
             domains: Vec::new(alloc),
@@ -125,6 +126,7 @@ impl Db {
         ensures ok { OnOk result (Inserts self.old self.new domain) }
         ensures cause { IfErr result (IsInsertFault self.old domain) }
         ensures err { OnErr result (self.new ≡ self.old) }
+        ensures db { IsDb self.new }
     {
         if let Some(fault) = refusal(self.domains.as_slice(), &domain) {
             return Err(fault);
@@ -137,8 +139,8 @@ impl Db {
     }
 
     /// The domain of this code, or `None` where there is none.
-    pub fn find(&self, alpha2: &Alpha2) -> Option<&Domain>
-        ensures { MatchOption result (HasCode self.now alpha2.now → ⊥) (λ d. Contains self.now d.now × (d.now.alpha2 ≡ alpha2.now)) }
+    pub fn find(&self, alpha2: Alpha2) -> Option<&Domain>
+        ensures { MatchOption result (HasCode self.now alpha2 → ⊥) (λ d. Contains self.now d.now × (d.now.alpha2 ≡ alpha2)) }
     {
         find_in(self.domains.as_slice(), alpha2)
     }

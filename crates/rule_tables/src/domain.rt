@@ -1,6 +1,6 @@
 //! A domain: what one country allows.
 
-ghost use Rattle.std.specs.Prelude.{◌≡◌, All, MatchOption, MatchResult};
+ghost use Rattle.std.specs.Prelude.{All, MatchOption, MatchResult};
 ghost use Rattle.freq_range.specs.First.{IsFirst};
 ghost use Rattle.freq_range.specs.Valid.{IsValidRule};
 ghost use Rattle.rule_tables.specs.Domains.{AreRules, IsDomainFault, IsInvalidAt};

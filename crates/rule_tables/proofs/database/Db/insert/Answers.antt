@@ -22,6 +22,9 @@ invariant_of-self c = elim c.match-insert.branch [
   | in-Err w ↦ rw w.in-Err.ensures.items c.self.invariant
 ]
 
+pub returns-clause-db : goal.returns-clause-db
+returns-clause-db c = invariant_of-self c
+
 pub returns-clause-ok : goal.returns-clause-ok
 returns-clause-ok c = elim c.match-insert.branch [
   | in-Ok w ↦ rw (w.result-is, w.in-Ok.ensures.items, ← c.self.view_is) (record {
