@@ -2,6 +2,7 @@
 use Rattle.std.proofs.Common.{◌≡◌, ℕ, ◌+◌, ◌-◌, ◌<◌, ◌≤◌, ◌⊎◌, ◌↔◌, List, [], ◌∷◌, ◌++◌, length, reverse, take, set, get_or, Option, Some, None, Contains, IsTrue, Bool, true, false, arith, refl, sym, ◌∙◌, ap, subst, inl, inr}
 use Rattle.std.proofs.lemmas.List.{reverse-reverse, reverse-append, length-reverse, length-set, get_or-reverse, get_or-set_same, take-set-le, take_all, take_more}
 use Rattle.std.proofs.lemmas.List.Elements.{Contains-append_cases}
+use Rattle.freq_range.proofs.Members.{Contains-reverse, Contains-from_reverse}
 use Rattle.rule_tables.specs.declared.code.Alpha2.{Alpha2}
 use Rattle.db_text.specs.declared.blocks.Block.{Block}
 use Rattle.freq_range.specs.declared.rule.Rule.{Rule}
@@ -9,19 +10,6 @@ use Rattle.db_text.specs.declared.form.Form.TheVariants.{RuleLine}
 use Rattle.db_text.specs.declared.blocks.Refusal.{Refusal}
 use Rattle.db_text.specs.declared.blocks.Refusal.TheVariants.{Kind, OutOfMemory}
 use Rattle.db_text.specs.Blocks.{HasBlock, HasRoom, IsFormRefusal, with_rule}
-
--- the elements of a list turned round are its elements
-pub Contains-reverse : {X : Type 0} (xs : List X) (x : X) → Contains xs x → Contains (reverse xs) x
-Contains-reverse xs x has =
-    let k = has.0 in
-    let len = length-reverse xs in
-    let there : length xs - 1 - k < length (reverse xs) = omega (arith, len, has.1) in
-    let back : length xs - 1 - (length xs - 1 - k) ≡ k = omega (arith, has.1) in
-    let e = get_or-reverse xs (length xs - 1 - k) x (omega (arith, has.1)) in
-    (length xs - 1 - k, there, e ∙ ap (λ n. get_or xs n x) back ∙ has.2)
-
-pub Contains-from_reverse : {X : Type 0} (xs : List X) (x : X) → Contains (reverse xs) x → Contains xs x
-Contains-from_reverse xs x has = rw reverse-reverse at (Contains-reverse (reverse xs) x has)
 
 -- a block of the code stands in the list whichever way it is turned
 pub HasBlock-reverse : (blocks : List Block) (code : Alpha2) → HasBlock blocks code → HasBlock (reverse blocks) code

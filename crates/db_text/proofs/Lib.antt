@@ -1,1 +1,17 @@
+pub mod Assembled
+pub mod BlockLaws
+pub mod BlockRules
+pub mod Comments
+pub mod Finished
+pub mod Flags
+pub mod Forms
+pub mod Headers
 pub mod KeptBlocks
+pub mod LineCuts
+pub mod Numbers
+pub mod ReadSoFar
+pub mod Rules
+pub mod Solid
+pub mod TextLaws
+pub mod Unique
+pub mod Words

@@ -1,16 +1,18 @@
 -- What the parser keeps of the lines so far. Only private functions' clauses cite it; the laws of proofs/ tie it to what
 -- the lines say.
-use Rattle.std.specs.Prelude.{◌≡◌, ◌≢◌, ℕ, ◌+◌, ◌<◌, List, [], ◌∷◌, ◌++◌, length, Contains}
+use Rattle.std.specs.Prelude.{◌≡◌, ◌≢◌, ℕ, ◌+◌, ◌<◌, List, [], ◌∷◌, ◌++◌, length, reverse, All, AllPairs, Contains, slice_index_or}
+use Rattle.freq_range.specs.First.{IsFirst}
+use Rattle.rule_tables.specs.Databases.{IsDb, IsDomain}
 use Rattle.freq_range.specs.declared.rule.Rule.{Rule}
 use Rattle.rule_tables.specs.declared.code.Alpha2.{Alpha2}
 use Rattle.rule_tables.specs.declared.domain.Domain.{Domain}
-use Rattle.db_text.specs.declared.fault.TextKind.{TextKind}
+use Rattle.db_text.specs.Forms.{AreAccepted, IsLine}
+use Rattle.db_text.specs.Lines.{lines_of}
 use Rattle.db_text.specs.declared.form.Form.{Form}
 use Rattle.db_text.specs.declared.form.Form.TheVariants.{Empty, HeaderLine, RuleLine}
 use Rattle.db_text.specs.declared.blocks.Block.{Block}
 use Rattle.db_text.specs.declared.blocks.Refusal.{Refusal}
 use Rattle.db_text.specs.declared.blocks.Refusal.TheVariants.{Kind, OutOfMemory}
-use Rattle.db_text.specs.Forms.{AreAccepted, IsLine, MayFollow}
 
 -- the last block has one rule more
 abbrev pub with_rule : Rule → List Block → List Block
@@ -50,5 +52,42 @@ abbrev pub IsFormRefusal : List Block → Form → Refusal → Type 0
 IsFormRefusal blocks form (Kind kind) = MayTake blocks form → ⊥
 IsFormRefusal blocks form OutOfMemory = Unit {0}
 
+-- the line was taken: it has a form that may follow
+pub record TakesLine (old new : List Block) (line : List ℕ) (number : ℕ) : Type 0 where
+  pub form : Form
+  pub is_line : IsLine line form
+  pub may : MayTake old form
+  pub taken : new ≡ with_form form number old
+
+-- why a line wasn't taken
+abbrev pub IsLineRefusal : List Block → List ℕ → Refusal → Type 0
+IsLineRefusal blocks line (Kind kind) = (form : Form) → IsLine line form → MayTake blocks form → ⊥
+IsLineRefusal blocks line OutOfMemory = Unit {0}
+
+-- the blocks, in order of lines, are those of a text whose lines are accepted
+pub record AreBlocksOf (text : List ℕ) (blocks : List Block) : Type 0 where
+  pub forms : List Form
+  pub accepted : AreAccepted (reverse (lines_of text)) forms
+  pub are : reverse blocks ≡ blocks_of forms
+
 abbrev pub domain_of : Block → Domain
 domain_of block = record { alpha2 = block.header.alpha2; region = block.header.region; rules = block.rules }
+
+-- there is a block at place k, and it has no rules
+abbrev pub IsEmptyAt : List Block → ℕ → Type 0
+IsEmptyAt blocks k = (k < length blocks) × ((d : Block) → (slice_index_or blocks k d).rules ≡ [])
+
+-- the line is that of the first block without rules
+abbrev pub IsFirstEmpty : List Block → ℕ → Type 0
+IsFirstEmpty blocks line = (k : ℕ) × IsFirst (IsEmptyAt blocks) k × ((d : Block) → line ≡ (slice_index_or blocks k d).line)
+
+-- blocks whose domains a database may hold
+pub record AreReady (blocks : List Block) : Type 0 where
+  pub each : All (λ b. IsDomain (domain_of b)) blocks
+  pub apart : AllPairs (λ b c. b.header.alpha2 ≢ c.header.alpha2) blocks
+
+-- the domains are those of the blocks
+pub record AreDomainsOf (blocks : List Block) (ds : List Domain) : Type 0 where
+  pub db : IsDb ds
+  pub each : All (λ d. (block : Block) × Contains blocks block × (domain_of block ≡ d)) ds
+  pub all : (block : Block) → Contains blocks block → Contains ds (domain_of block)

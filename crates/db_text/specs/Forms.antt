@@ -1,12 +1,12 @@
 -- What the lines of a text say together. A list of forms has that of the last line first: the forms behind one are
 -- those of the lines above it.
-use Rattle.std.specs.Prelude.{◌≡◌, ℕ, ◌<◌, ◌==◌, ◌&&◌, Bool, true, false, List, [], ◌∷◌, ◌++◌, length, Contains, Option, Some, None, IsSomeAnd, if◌then◌else◌}
+use Rattle.std.specs.Prelude.{◌≡◌, ℕ, ◌<◌, ◌==◌, ◌&&◌, Bool, false, List, [], ◌∷◌, ◌++◌, length, Contains, Option, Some, None, IsSomeAnd, if◌then◌else◌}
 use Rattle.freq_range.specs.declared.rule.Rule.{Rule}
 use Rattle.rule_tables.specs.declared.code.Alpha2.{Alpha2}
 use Rattle.db_text.specs.declared.form.Header.{Header}
 use Rattle.db_text.specs.declared.form.Form.{Form}
 use Rattle.db_text.specs.declared.form.Form.TheVariants.{Empty, HeaderLine, RuleLine}
-use Rattle.db_text.specs.Lines.{bare, IsText}
+use Rattle.db_text.specs.Lines.{bare, IsReadableLine}
 use Rattle.db_text.specs.Spelling.{IsHeader, IsRuleLine}
 
 -- the line, its comment and blanks dropped, has the form
@@ -17,7 +17,7 @@ IsForm line (RuleLine rule) = IsRuleLine line rule
 
 -- the line as it stands in the text has the form
 pub record IsLine (line : List ℕ) (form : Form) : Type 0 where
-  pub is_text : IsText line
+  pub is_text : IsReadableLine line
   pub has_form : IsForm (bare line) form
 
 -- the form of line k, counted from 0: the one with k lines above it
@@ -35,16 +35,17 @@ last_header (RuleLine rule ∷ above) = last_header above
 abbrev pub same_code : Alpha2 → Alpha2 → Bool
 same_code c d = c.a == d.a && c.b == d.b
 
-abbrev pub names_code : Alpha2 → Option Header → Bool
-names_code code None = false
-names_code code (Some h) = same_code h.alpha2 code
+-- whether the last header, if there is one, names the code
+abbrev pub last_names : Alpha2 → Option Header → Bool
+last_names code None = false
+last_names code (Some h) = same_code h.alpha2 code
 
 -- the rules of a code: those of the rule lines whose last header above names it, in order of lines
 abbrev pub rules_of : Alpha2 → List Form → List Rule
 rules_of code [] = []
 rules_of code (Empty ∷ above) = rules_of code above
 rules_of code (HeaderLine h ∷ above) = rules_of code above
-rules_of code (RuleLine rule ∷ above) = rules_of code above ++ (if names_code code (last_header above) then rule ∷ [] else [])
+rules_of code (RuleLine rule ∷ above) = rules_of code above ++ (if last_names code (last_header above) then rule ∷ [] else [])
 
 -- some header names the code
 abbrev pub Names : List Form → Alpha2 → Type 0

@@ -23,6 +23,6 @@ abbrev pub bare : List ℕ → List ℕ
 bare line = solid (without_comment line)
 
 -- at most 4,096 bytes, and UTF-8
-pub record IsText (line : List ℕ) : Type 0 where
+pub record IsReadableLine (line : List ℕ) : Type 0 where
   pub short : length line ≤ 4096
   pub utf8 : IsUtf8 line

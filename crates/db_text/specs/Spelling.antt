@@ -31,8 +31,8 @@ pub record IsNumber (digits : List ℕ) : Type 0 where
   pub each : All IsDigit digits
 
 -- the value of digits, the highest first
-abbrev pub decimal : List ℕ → ℕ
-decimal digits = fold (λ value digit. value * 10 + (digit - 48)) 0 digits
+abbrev pub value_of_digits : List ℕ → ℕ
+value_of_digits digits = fold (λ value digit. value * 10 + (digit - 48)) 0 digits
 
 abbrev pub flag_name : Flag → List ℕ
 flag_name NoOfdm = codes "NO-OFDM"
@@ -79,11 +79,11 @@ pub record MeansRule (s : RuleSpelling) (rule : Rule) : Type 0 where
   pub end_number : IsNumber s.end
   pub width_number : IsNumber s.width
   pub power_number : IsNumber s.power
-  pub start : rule.start_khz ≡ 1000 * decimal s.start
-  pub end : rule.end_khz ≡ 1000 * decimal s.end
-  pub width : rule.max_bw_khz ≡ 1000 * decimal s.width
-  pub power : rule.eirp_mbm ≡ 100 * decimal s.power
-  pub power_limit : decimal s.power ≤ 655
+  pub start : rule.start_khz ≡ 1000 * value_of_digits s.start
+  pub end : rule.end_khz ≡ 1000 * value_of_digits s.end
+  pub width : rule.max_bw_khz ≡ 1000 * value_of_digits s.width
+  pub power : rule.eirp_mbm ≡ 100 * value_of_digits s.power
+  pub power_limit : value_of_digits s.power ≤ 655
   pub flags : rule.flags ≡ flags_of s.flags
   pub check_time : rule.cac_s ≡ 0
   pub valid : IsValidRule rule

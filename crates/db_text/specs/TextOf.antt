@@ -3,6 +3,8 @@ use Rattle.std.specs.Prelude.{◌≡◌, ℕ, ◌+◌, ◌<◌, ◌⊎◌, List,
 use Rattle.freq_range.specs.First.{IsFirst}
 use Rattle.rule_tables.specs.Databases.{IsDb, HasCode}
 use Rattle.rule_tables.specs.declared.domain.Domain.{Domain}
+use Rattle.db_text.specs.declared.fault.ParseFault.{ParseFault}
+use Rattle.db_text.specs.declared.fault.ParseFault.TheVariants.{Text, OutOfMemory}
 use Rattle.db_text.specs.declared.fault.TextFault.{TextFault}
 use Rattle.db_text.specs.declared.fault.TextKind.{TextKind}
 use Rattle.db_text.specs.declared.fault.TextKind.TheVariants.{NotBuilt}
@@ -31,12 +33,12 @@ TextOf text ds = (forms : List Form) × AreAccepted (reverse (lines_of text)) fo
 abbrev pub AcceptsFirst : List (List ℕ) → ℕ → Type 0
 AcceptsFirst lines n = (forms : List Form) × AreAccepted (reverse (take n lines)) forms
 
--- with line k, counted from 0, the lines are not accepted any more
+-- the lines up to line k, counted from 0, are not accepted: line k or one before it is at fault
 abbrev pub IsRefusedAt : List (List ℕ) → ℕ → Type 0
 IsRefusedAt lines k = (k < length lines) × (AcceptsFirst lines (k + 1) → ⊥)
 
 -- line k, counted from 0, is a header whose code has no rules
-pub record IsBareHeaderAt (forms : List Form) (k : ℕ) : Type 0 where
+pub record IsHeaderWithoutRulesAt (forms : List Form) (k : ℕ) : Type 0 where
   pub header : Header
   pub here : form_at forms k ≡ Some (HeaderLine header)
   pub without_rules : rules_of header.alpha2 forms ≡ []
@@ -45,7 +47,7 @@ pub record IsBareHeaderAt (forms : List Form) (k : ℕ) : Type 0 where
 abbrev pub IsFaultyLine : List ℕ → ℕ → Type 0
 IsFaultyLine text k =
     IsFirst (IsRefusedAt (lines_of text)) k
-    ⊎ ((forms : List Form) × AreAccepted (reverse (lines_of text)) forms × IsFirst (IsBareHeaderAt forms) k)
+    ⊎ ((forms : List Form) × AreAccepted (reverse (lines_of text)) forms × IsFirst (IsHeaderWithoutRulesAt forms) k)
 
 -- what is wrong with line k, counted from 0
 abbrev pub IsKind : List ℕ → ℕ → TextKind → Type 0
@@ -54,3 +56,8 @@ IsKind text k NotBuilt = IsFaultyLine text k
 -- The fault of the text: the number of its faulty line, counted from 1, and what is wrong with it.
 abbrev pub IsTextFault : List ℕ → TextFault → Type 0
 IsTextFault text fault = (k : ℕ) × (fault.line ≡ k + 1) × IsKind text k fault.kind
+
+-- why a text gives no database
+abbrev pub IsParseFault : List ℕ → ParseFault → Type 0
+IsParseFault text (Text fault) = IsTextFault text fault
+IsParseFault text OutOfMemory = Unit {0}

@@ -1,8 +1,16 @@
 //! Reads rule texts (`db.txt` of wireless-regdb).
 #![tactic(auto)]
 
+mod assemble;
 mod blocks;
 mod fault;
 mod form;
+mod form_reader;
+mod header_reader;
+mod lines;
+mod rule_reader;
+mod scanner;
+mod text;
 
 pub use fault::{ParseFault, TextFault, TextKind};
+pub use text::parse;

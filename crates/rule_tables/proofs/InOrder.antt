@@ -31,3 +31,17 @@ AllPairs-insert R xs i y within pairs below above a b d less in_range =
     (λ low. at_insert (λ x. R (get_or xs a d) x) xs i y b d within (λ h. pairs a b d less (omega arith)) (λ h. below a d low) (λ h. pairs a (b - 1) d (omega arith) (omega (arith, len))))
     (λ here. at_insert (λ x. R y x) xs i y b d within (λ h. absurd (omega arith)) (λ h. absurd (omega arith)) (λ h. above (b - 1) d (omega arith) (omega (arith, len))))
     (λ high. at_insert (λ x. R (get_or xs (a - 1) d) x) xs i y b d within (λ h. absurd (omega arith)) (λ h. absurd (omega arith)) (λ h. pairs (a - 1) (b - 1) d (omega arith) (omega (arith, len))))
+
+-- the new element is there, and so are the old ones
+pub Contains-inserted : {X : Type 0} (xs : List X) (i : ℕ) (y : X) → i ≤ length xs → Contains (insert xs i y) y
+Contains-inserted xs i y within = (i, omega (arith, length-insert xs i y within), get_or-insert_at xs i y y within)
+
+pub Contains-insert : {X : Type 0} (xs : List X) (i : ℕ) (y x : X) → i ≤ length xs → Contains xs x → Contains (insert xs i y) x
+Contains-insert xs i y x within has =
+    let k = has.0 in
+    let in_range = has.1 in
+    let len = length-insert xs i y within in
+    elim (cases_lt k i) [
+      | inl lower ↦ (k, omega (arith, len), get_or-insert_below xs i y x k lower within ∙ has.2)
+      | inr higher ↦ (k + 1, omega (arith, len), get_or-insert_above xs i y x k higher within ∙ has.2)
+    ]

@@ -1,3 +1,4 @@
 pub mod Inserted
 pub mod InOrder
+pub mod Refused
 pub mod Repeats
