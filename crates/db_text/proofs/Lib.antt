@@ -9,6 +9,7 @@ pub mod Headers
 pub mod KeptBlocks
 pub mod LineCuts
 pub mod Numbers
+pub mod OneAnswer
 pub mod ReadSoFar
 pub mod Rules
 pub mod Solid

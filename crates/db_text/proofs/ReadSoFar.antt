@@ -82,7 +82,7 @@ accepted_front [] ys forms accepted = (forms, accepted)
 accepted_front (x ∷ xs) ys [] accepted = absurd accepted
 accepted_front (x ∷ xs) ys (form ∷ above) accepted = accepted_front xs ys above accepted.0
 
-accepts_fewer : (seen more : List (List ℕ)) (forms : List Form) (j : ℕ) → AreAccepted (reverse seen) forms → j < length seen → AcceptsFirst (seen ++ more) (j + 1)
+pub accepts_fewer : (seen more : List (List ℕ)) (forms : List Form) (j : ℕ) → AreAccepted (reverse seen) forms → j < length seen → AcceptsFirst (seen ++ more) (j + 1)
 accepts_fewer seen more forms j accepted less =
     let within : j + 1 ≤ length seen = omega arith in
     let turned : reverse seen ≡ reverse (drop (j + 1) seen) ++ reverse (take (j + 1) seen) =

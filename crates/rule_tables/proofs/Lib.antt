@@ -1,4 +1,5 @@
 pub mod Inserted
+pub mod Ascending
 pub mod InOrder
 pub mod Refused
 pub mod Repeats
