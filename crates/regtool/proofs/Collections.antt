@@ -1,5 +1,5 @@
 -- A collection's record reads as the domain that it was written for.
-use Rattle.std.proofs.Common.{◌≡◌, ℕ, ◌+◌, ◌*◌, ◌/◌, ◌≤◌, List, [], length, get_or, refl, sym, ap, subst, arith}
+use Rattle.std.proofs.Common.{◌≡◌, ℕ, ◌+◌, ◌*◌, ◌/◌, ◌≤◌, List, length, get_or, refl, sym, ap, subst, arith}
 use Rattle.rule_tables.specs.Databases.{IsDomain}
 use Rattle.rule_tables.specs.FileFormat.{pointers_of, RulesAt, CollectionAt}
 use Rattle.rule_tables.specs.declared.domain.Domain.{Domain}

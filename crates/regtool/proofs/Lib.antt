@@ -5,3 +5,4 @@ pub mod Rules
 pub mod Collections
 pub mod Entries
 pub mod Law
+pub mod Complete

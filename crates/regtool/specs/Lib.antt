@@ -1,2 +1,5 @@
 pub mod Layout
 pub mod Image
+pub mod Status
+pub mod Input
+pub mod Answer

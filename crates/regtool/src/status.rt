@@ -1,0 +1,102 @@
+//! What a call of the program ends with.
+
+ghost use Rattle.std.specs.Prelude.{◌≡◌, IfOk};
+ghost use Rattle.regtool.specs.Status.{fault_text, kind_name, line_of, number_of, text_of};
+
+use db_text::{TextFault, TextKind};
+use reg_base::{Bytes, OutOfMemory};
+use std::alloc::Global;
+
+/// Why the input isn't accepted.
+#[derive(Clone, Copy, Debug, PartialEq, Eq)]
+pub enum InputFault {
+    /// The rule text stands for no database.
+    Text(TextFault),
+    /// The last collection of the database would stand at this place, in words of 4 bytes: above
+    /// 65,535.
+    Layout { words: u64 },
+}
+
+/// What a call of the program ends with.
+#[derive(Clone, Copy, Debug, PartialEq, Eq)]
+pub enum Status {
+    /// All output was written.
+    Done,
+    /// The words are none that the program knows.
+    Usage,
+    /// The input isn't accepted.
+    Refused(InputFault),
+    /// The input could not be read.
+    ReadFault,
+    /// The output could not be written.
+    WriteFault,
+    /// No memory was found.
+    NoMemory,
+    /// The input has more bytes than the limit.
+    TooLong,
+}
+
+impl Status {
+    /// The status that the process ends with.
+    pub fn number(&self) -> u8
+        ensures { result ≡ number_of self.now }
+    {
+        match self {
+            Status::Done => 0,
+            Status::Usage => 1,
+            Status::Refused(_) => 2,
+            Status::ReadFault => 3,
+            Status::WriteFault => 4,
+            Status::NoMemory => 5,
+            Status::TooLong => 6,
+        }
+    }
+}
+
+/// What is written to standard error: a line that ends with a newline, and no bytes for `Done`.
+pub fn status_text(alloc: Global, status: &Status) -> Result<Bytes, OutOfMemory>
+    ensures { IfOk result (λ text. text ≡ text_of status.now) }
+{
+    match status {
+        Status::Done => Ok(Bytes::new(alloc)),
+        Status::Usage => line_of(alloc, b"usage"),
+        Status::Refused(fault) => fault_line(alloc, fault),
+        Status::ReadFault => line_of(alloc, b"read fault"),
+        Status::WriteFault => line_of(alloc, b"write fault"),
+        Status::NoMemory => line_of(alloc, b"no memory"),
+        Status::TooLong => line_of(alloc, b"input too long"),
+    }
+}
+
+/// The line that tells the fault.
+fn fault_line(alloc: Global, fault: &InputFault) -> Result<Bytes, OutOfMemory>
+    ensures { IfOk result (λ text. text ≡ line_of (fault_text fault.now)) }
+{
+    let text = match fault {
+        InputFault::Text(fault) => {
+            let kind = kind_name(fault.kind);
+            format!(in alloc; "line {}: {kind}", fault.line)?
+        }
+        InputFault::Layout { words } => format!(in alloc; "too large: {words} words")?,
+    };
+    line_of(alloc, text.as_bytes())
+}
+
+/// The name of the kind.
+fn kind_name(kind: TextKind) -> &'static str
+    ensures { result.now ≡ kind_name kind }
+{
+    match kind {
+        TextKind::NotBuilt => "NotBuilt",
+    }
+}
+
+/// The text and a newline.
+fn line_of(alloc: Global, text: &[u8]) -> Result<Bytes, OutOfMemory>
+    ensures { IfOk result (λ line. line ≡ line_of text.now) }
+{
+    let mut line = Bytes::new(alloc);
+    line.append(text)?;
+    line.push(b'\n')?;
+    Ok(line)
+}
