@@ -1,21 +1,17 @@
 -- The blocks of accepted lines say what the lines say.
-use Rattle.std.proofs.Common.{◌≡◌, ◌≢◌, ℕ, zero, suc, ◌+◌, ◌-◌, ◌<◌, ◌≤◌, ◌==◌, ◌&&◌, ◌⊎◌, Bool, true, false, List, [], ◌∷◌, ◌++◌, length, get_or, All, AllPairs, Contains, Option, Some, None, IsSomeAnd, arith, refl, sym, ◌∙◌, ap, subst, inl, inr, eq-eqb, if◌then◌else◌}
+use Rattle.std.proofs.Common.{◌≡◌, ℕ, ◌+◌, ◌<◌, true, false, List, [], ◌∷◌, ◌++◌, length, Contains, Option, Some, None, arith, refl, ◌∙◌, ap, inl, inr, eq-eqb}
 use Rattle.std.proofs.lemmas.Bool.{cases_eq, ne_eqb}
 use Rattle.std.proofs.lemmas.Option.{same_Some}
-use Rattle.std.proofs.lemmas.List.{append-nil, length_push}
-use Rattle.std.proofs.lemmas.List.Elements.{All-nil, All-push, Contains-get_or}
-use Rattle.std.proofs.lemmas.List.Quantifiers.{all_pairs_push}
 use Rattle.freq_range.specs.Valid.{IsValidRule}
 use Rattle.freq_range.specs.declared.rule.Rule.{Rule}
 use Rattle.rule_tables.specs.Code.{IsCode}
-use Rattle.rule_tables.specs.Domains.{AreDistinct}
 use Rattle.rule_tables.specs.declared.code.Alpha2.{Alpha2}
 use Rattle.db_text.specs.declared.form.Header.{Header}
 use Rattle.db_text.specs.declared.form.Form.{Form}
 use Rattle.db_text.specs.declared.form.Form.TheVariants.{Empty, HeaderLine, RuleLine}
 use Rattle.db_text.specs.declared.blocks.Block.{Block}
 use Rattle.db_text.specs.Forms.{AreAccepted, IsLine, MayFollow, Names, form_at, last_header, last_names, rules_of, same_code}
-use Rattle.db_text.specs.Blocks.{HasBlock, HasRoom, MayTake, blocks_of, with_form, with_rule}
+use Rattle.db_text.specs.Blocks.{HasBlock, blocks_of, with_rule}
 use Rattle.freq_range.proofs.Members.{Contains-head, Contains-later, Contains-cases, Contains-nothing}
 
 -- what a line says on its own

@@ -1,5 +1,5 @@
 -- Each block of accepted lines has the header of its line and the rules of its code; its code is no other block's.
-use Rattle.std.proofs.Common.{◌≡◌, ◌≢◌, ℕ, zero, suc, ◌+◌, ◌-◌, ◌<◌, ◌≤◌, ◌==◌, ◌⊎◌, Bool, true, false, List, [], ◌∷◌, ◌++◌, length, get_or, All, AllPairs, Contains, Option, Some, None, IsSomeAnd, arith, refl, sym, ◌∙◌, ap, subst, inl, inr, eq-eqb, if◌then◌else◌}
+use Rattle.std.proofs.Common.{◌≡◌, ◌≢◌, ℕ, ◌+◌, ◌<◌, ◌≤◌, List, [], ◌∷◌, ◌++◌, length, All, Contains, Some, arith, refl, sym, ◌∙◌, ap, subst, inl, inr}
 use Rattle.std.proofs.lemmas.List.{append-nil, length_push}
 use Rattle.std.proofs.lemmas.List.Elements.{All-nil, All-push, Contains-get_or}
 use Rattle.std.proofs.lemmas.List.Quantifiers.{all_pairs_push}
@@ -7,15 +7,14 @@ use Rattle.freq_range.specs.Valid.{IsValidRule}
 use Rattle.freq_range.specs.declared.rule.Rule.{Rule}
 use Rattle.rule_tables.specs.Code.{IsCode}
 use Rattle.rule_tables.specs.Domains.{AreDistinct}
-use Rattle.rule_tables.specs.declared.code.Alpha2.{Alpha2}
 use Rattle.db_text.specs.declared.form.Header.{Header}
 use Rattle.db_text.specs.declared.form.Form.{Form}
 use Rattle.db_text.specs.declared.form.Form.TheVariants.{Empty, HeaderLine, RuleLine}
 use Rattle.db_text.specs.declared.blocks.Block.{Block}
-use Rattle.db_text.specs.Forms.{MayFollow, Names, form_at, last_header, last_names, rules_of, same_code}
+use Rattle.db_text.specs.Forms.{MayFollow, form_at, last_header, rules_of}
 use Rattle.db_text.specs.Blocks.{HasBlock, blocks_of, with_rule}
 use Rattle.freq_range.proofs.Members.{Contains-head, Contains-later, Contains-cases, Contains-nothing}
-use Rattle.db_text.proofs.BlockLaws.{Chain, IsSoundForm, form_at_top, form_at_more, same_code-itself, same_code-apart, last_names-apart, rules_of-unnamed, HasBlock-with_rule, Names-from_block}
+use Rattle.db_text.proofs.BlockLaws.{Chain, form_at_top, form_at_more, same_code-itself, same_code-apart, rules_of-unnamed, Names-from_block}
 
 -- the codes of the blocks differ
 abbrev pub AreApart : List Block → Type 0

@@ -1,22 +1,20 @@
 -- What the blocks of an accepted text come to: its first header without rules, or its database.
-use Rattle.std.proofs.Common.{◌≡◌, ◌≢◌, ℕ, ◌+◌, ◌<◌, List, [], ◌∷◌, length, get_or, reverse, All, AllPairs, Contains, Option, Some, None, arith, refl, sym, ◌∙◌, ap, subst, inl, inr}
+use Rattle.std.proofs.Common.{◌≡◌, ℕ, ◌+◌, ◌<◌, List, [], length, get_or, reverse, All, AllPairs, Contains, arith, sym, ◌∙◌, ap, subst, inl, inr}
 use Rattle.std.proofs.lemmas.Bool.{cases_order}
 use Rattle.std.proofs.lemmas.List.{get_or_default, reverse-reverse}
 use Rattle.std.proofs.lemmas.List.Elements.{All-weaker, Contains-get_or}
 use Rattle.freq_range.specs.First.{IsFirst}
-use Rattle.freq_range.proofs.Members.{Contains-reverse, Contains-from_reverse}
+use Rattle.freq_range.proofs.Members.{Contains-reverse}
 use Rattle.rule_tables.specs.declared.code.Region.TheVariants.{Unset}
 use Rattle.rule_tables.specs.declared.domain.Domain.{Domain}
-use Rattle.rule_tables.specs.Databases.{HasCode, IsDomain}
 use Rattle.db_text.specs.declared.fault.TextKind.{TextKind}
 use Rattle.db_text.specs.declared.fault.TextKind.TheVariants.{NotBuilt}
 use Rattle.db_text.specs.declared.form.Header.{Header}
-use Rattle.db_text.specs.declared.form.Form.{Form}
 use Rattle.db_text.specs.declared.form.Form.TheVariants.{HeaderLine}
 use Rattle.db_text.specs.declared.blocks.Block.{Block}
 use Rattle.db_text.specs.Lines.{lines_of}
-use Rattle.db_text.specs.Forms.{AreAccepted, rules_of}
-use Rattle.db_text.specs.TextOf.{IsHeaderWithoutRulesAt, IsDomainOf, IsFaultyLine, IsKind, StandsFor, TextOf}
+use Rattle.db_text.specs.Forms.{rules_of}
+use Rattle.db_text.specs.TextOf.{IsHeaderWithoutRulesAt, IsDomainOf, IsFaultyLine, IsKind, TextOf}
 use Rattle.db_text.specs.Blocks.{AreBlocksOf, AreDomainsOf, AreReady, IsEmptyAt, IsFirstEmpty, blocks_of, domain_of}
 use Rattle.db_text.proofs.BlockLaws.{Chain, chain_from_accepted, form_at_contains, HasBlock-from_header}
 use Rattle.db_text.proofs.BlockRules.{IsBlockOf, blocks_are}

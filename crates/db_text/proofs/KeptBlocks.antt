@@ -1,7 +1,6 @@
 -- What the blocks that are kept have, by the last one and the closed ones.
-use Rattle.std.proofs.Common.{◌≡◌, ℕ, ◌+◌, ◌-◌, ◌<◌, ◌≤◌, ◌⊎◌, ◌↔◌, List, [], ◌∷◌, ◌++◌, length, reverse, take, set, get_or, Option, Some, None, Contains, IsTrue, Bool, true, false, arith, refl, sym, ◌∙◌, ap, subst, inl, inr}
-use Rattle.std.proofs.lemmas.List.{reverse-reverse, reverse-append, length-reverse, length-set, get_or-reverse, get_or-set_same, take-set-le, take_all, take_more}
-use Rattle.std.proofs.lemmas.List.Elements.{Contains-append_cases}
+use Rattle.std.proofs.Common.{◌≡◌, ℕ, ◌+◌, ◌-◌, ◌<◌, List, [], ◌∷◌, ◌++◌, length, reverse, take, set, get_or, arith, sym, ◌∙◌, ap}
+use Rattle.std.proofs.lemmas.List.{reverse-append, length-set, get_or-set_same, take-set-le, take_all, take_more}
 use Rattle.freq_range.proofs.Members.{Contains-reverse, Contains-from_reverse}
 use Rattle.rule_tables.specs.declared.code.Alpha2.{Alpha2}
 use Rattle.db_text.specs.declared.blocks.Block.{Block}

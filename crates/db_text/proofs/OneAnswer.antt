@@ -1,26 +1,23 @@
 -- A text has at most one of a database and a fault.
-use Rattle.std.proofs.Common.{◌≡◌, ℕ, ◌+◌, ◌<◌, ◌≤◌, ◌⊎◌, List, [], ◌∷◌, ◌++◌, length, reverse, All, Contains, Option, Some, arith, refl, sym, ◌∙◌, ap, subst, inl, inr}
+use Rattle.std.proofs.Common.{◌≡◌, ℕ, ◌+◌, List, [], ◌∷◌, length, reverse, Contains, arith, refl, sym, ◌∙◌, ap, subst, inl, inr}
 use Rattle.std.proofs.lemmas.Bool.{cases_order}
-use Rattle.std.proofs.lemmas.List.{append-nil, length-reverse}
+use Rattle.std.proofs.lemmas.List.{append-nil}
 use Rattle.std.proofs.lemmas.List.Elements.{All-contains}
 use Rattle.freq_range.specs.First.{IsFirst}
-use Rattle.freq_range.proofs.Members.{Contains-head, Contains-later, Contains-cases, Contains-nothing}
-use Rattle.freq_range.specs.declared.rule.Rule.{Rule}
-use Rattle.rule_tables.specs.declared.code.Alpha2.{Alpha2}
-use Rattle.rule_tables.specs.declared.code.Region.{Region}
+use Rattle.freq_range.proofs.Members.{Contains-cases, Contains-nothing}
 use Rattle.rule_tables.specs.declared.domain.Domain.{Domain}
 use Rattle.rule_tables.specs.Code.{key}
-use Rattle.rule_tables.specs.Databases.{HasCode, IsDb, IsDomain}
+use Rattle.rule_tables.specs.Databases.{IsDomain}
 use Rattle.rule_tables.proofs.Ascending.{same_from_elements}
 use Rattle.db_text.specs.declared.fault.TextFault.{TextFault}
 use Rattle.db_text.specs.declared.fault.TextKind.{TextKind}
 use Rattle.db_text.specs.declared.fault.TextKind.TheVariants.{NotBuilt}
 use Rattle.db_text.specs.declared.form.Header.{Header}
 use Rattle.db_text.specs.declared.form.Form.{Form}
-use Rattle.db_text.specs.declared.form.Form.TheVariants.{Empty, HeaderLine, RuleLine}
+use Rattle.db_text.specs.declared.form.Form.TheVariants.{HeaderLine}
 use Rattle.db_text.specs.Lines.{lines_of}
-use Rattle.db_text.specs.Forms.{AreAccepted, Names, rules_of}
-use Rattle.db_text.specs.TextOf.{AcceptsFirst, IsDomainOf, IsFaultyLine, IsHeaderWithoutRulesAt, IsKind, IsRefusedAt, IsTextFault, StandsFor, TextOf}
+use Rattle.db_text.specs.Forms.{AreAccepted, rules_of}
+use Rattle.db_text.specs.TextOf.{IsDomainOf, IsFaultyLine, IsHeaderWithoutRulesAt, IsKind, IsRefusedAt, IsTextFault, StandsFor, TextOf}
 use Rattle.db_text.proofs.BlockLaws.{Chain, chain_from_accepted, form_at_contains}
 use Rattle.db_text.proofs.ReadSoFar.{accepts_fewer}
 use Rattle.db_text.proofs.Unique.{AreAccepted-unique}

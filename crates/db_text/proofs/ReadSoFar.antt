@@ -1,14 +1,14 @@
 -- How far the lines of a text were read, and what a refused line means for the text.
-use Rattle.std.proofs.Common.{◌≡◌, ℕ, zero, suc, ◌+◌, ◌-◌, ◌<◌, ◌≤◌, List, [], ◌∷◌, ◌++◌, length, take, drop, reverse, Bor, Option, Some, None, IfSome, MatchOption, arith, refl, sym, ◌∙◌, ap}
+use Rattle.std.proofs.Common.{◌≡◌, ℕ, suc, ◌+◌, ◌<◌, ◌≤◌, List, [], ◌∷◌, ◌++◌, length, take, drop, reverse, Bor, Option, Some, None, IfSome, MatchOption, arith, refl, sym, ◌∙◌, ap}
 use Rattle.std.specs.Option.{option_copied}
-use Rattle.std.proofs.lemmas.List.{append-nil, append_assoc, length-append, length-reverse, length_push, reverse-append, take-append-drop, take-append-le, take_all, take_at}
+use Rattle.std.proofs.lemmas.List.{append-nil, append_assoc, length-append, length-reverse, length_push, reverse-append, take-append-drop, take-append-le, take_at}
 use Rattle.freq_range.specs.First.{IsFirst}
 use Rattle.db_text.specs.declared.form.Form.{Form}
 use Rattle.db_text.specs.declared.blocks.Block.{Block}
 use Rattle.db_text.specs.declared.blocks.Refusal.TheVariants.{Kind, OutOfMemory}
 use Rattle.db_text.specs.declared.blocks.Refusal.{Refusal}
 use Rattle.db_text.specs.Lines.{lines_of}
-use Rattle.db_text.specs.Forms.{AreAccepted, IsLine, MayFollow}
+use Rattle.db_text.specs.Forms.{AreAccepted, IsLine}
 use Rattle.db_text.specs.TextOf.{AcceptsFirst, IsRefusedAt}
 use Rattle.db_text.specs.Blocks.{AreBlocksOf, IsFormRefusal, IsLineRefusal, MayTake, TakesLine, blocks_of, with_form}
 use Rattle.db_text.proofs.BlockLaws.{chain_from_accepted}

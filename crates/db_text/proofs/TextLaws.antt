@@ -1,20 +1,19 @@
 -- What may follow accepted lines, what the blocks may take, and how the blocks stand in order of lines.
-use Rattle.std.proofs.Common.{◌≡◌, ◌≢◌, ℕ, ◌+◌, ◌-◌, ◌<◌, ◌≤◌, ◌==◌, ◌⊎◌, Bool, true, false, List, [], ◌∷◌, ◌++◌, length, get_or, reverse, All, AllPairs, Contains, Option, Some, None, IsSomeAnd, arith, refl, sym, ◌∙◌, ap, subst, inl, inr, eq-eqb}
+use Rattle.std.proofs.Common.{◌≡◌, ◌≢◌, ℕ, ◌+◌, ◌<◌, List, [], ◌∷◌, ◌++◌, length, reverse, AllPairs, Contains, Option, Some, None, IsSomeAnd, arith, refl, ◌∙◌, ap, subst, inl, inr, eq-eqb}
 use Rattle.std.proofs.lemmas.Bool.{cases_eq, ne_eqb}
 use Rattle.std.proofs.lemmas.List.{reverse-append}
 use Rattle.std.proofs.lemmas.List.Elements.{Contains-get_or}
 use Rattle.std.proofs.lemmas.List.Quantifiers.{all_pairs_push}
-use Rattle.rule_tables.specs.declared.code.Alpha2.{Alpha2}
 use Rattle.db_text.specs.declared.form.Header.{Header}
 use Rattle.db_text.specs.declared.form.Form.{Form}
 use Rattle.db_text.specs.declared.form.Form.TheVariants.{Empty, HeaderLine, RuleLine}
 use Rattle.db_text.specs.declared.blocks.Block.{Block}
-use Rattle.db_text.specs.Forms.{MayFollow, Names, form_at, last_header, rules_of}
+use Rattle.db_text.specs.Forms.{MayFollow, form_at, last_header, rules_of}
 use Rattle.db_text.specs.Blocks.{HasBlock, HasRoom, MayTake, blocks_of, with_form, with_rule}
 use Rattle.freq_range.proofs.Members.{Contains-head, Contains-later, Contains-cases, Contains-nothing}
 use Rattle.freq_range.proofs.Members.{Contains-from_reverse}
 use Rattle.db_text.proofs.BlockLaws.{Chain, form_at_within, last_header_named, Names-from_block, HasBlock-from_header}
-use Rattle.db_text.proofs.BlockRules.{AreApart, IsBlockOf, blocks_apart, blocks_are, last_block}
+use Rattle.db_text.proofs.BlockRules.{AreApart, blocks_apart, blocks_are, last_block}
 
 -- the blocks with one line more
 pub blocks_of-more : (form : Form) (above : List Form) → with_form form (length above + 1) (blocks_of above) ≡ blocks_of (form ∷ above)

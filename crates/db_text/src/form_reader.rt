@@ -46,6 +46,3 @@ pub fn form_of(line: &[u8]) -> Option<Form>
     }
     form_at(without_comment(line))
 }
-
-#[cfg(test)]
-mod tests;

@@ -1,5 +1,5 @@
 -- What makes a rule valid.
-use Rattle.std.specs.Prelude.{ℕ, ◌-◌, ◌^◌, ◌<◌, ◌≤◌}
+use Rattle.std.specs.Prelude.{◌-◌, ◌^◌, ◌<◌, ◌≤◌}
 use Rattle.freq_range.specs.declared.rule.Rule.{Rule}
 
 -- The range begins above 0, ends after its beginning and holds the width. The last three say that the numbers fit the

@@ -1,6 +1,8 @@
-//! Sources and sinks over the standard streams, which tell no bytes: the trusted edge.
+//! Sources and sinks over readers and writers, which tell the bytes that those tell. The standard
+//! streams tell none: the trusted edge.
 
-ghost use Rattle.std.specs.Prelude.{◌≡◌, None};
+ghost use Rattle.std.specs.Prelude.{◌≡◌};
+ghost use Rattle.reg_base.specs.Appended.{AppendsAtMost};
 
 use crate::errors::Failed;
 use crate::sink::Sink;
@@ -16,14 +18,15 @@ pub struct StdSource<R: Read> {
 
 impl<R: Read> StdSource<R> {
     pub fn new(reader: R) -> StdSource<R>
-        ensures { result.faults ≡ 0 }
+        ensures left { ⟦<StdSource<R> as Source>⟧.left result ≡ R.remaining reader }
+        ensures count { ⟦<StdSource<R> as Source>⟧.count result ≡ 0 }
     {
         StdSource { reader, faults: 0 }
     }
 }
 
 impl<R: Read> Source for StdSource<R> {
-    ghost left = { λ _. None };
+    ghost left = { λ s. R.remaining s.reader };
 
     ghost count = { λ s. s.faults };
 
@@ -51,14 +54,17 @@ pub struct StdSink<W: Write> {
 
 impl<W: Write> StdSink<W> {
     pub fn new(writer: W) -> StdSink<W>
-        ensures { result.faults ≡ 0 }
+        ensures held { ⟦<StdSink<W> as Sink>⟧.held result ≡ W.contents writer }
+        ensures count { ⟦<StdSink<W> as Sink>⟧.count result ≡ 0 }
     {
         StdSink { writer, faults: 0 }
     }
 }
 
 /// Writes all of the piece and flushes. A write that takes nothing of what is left is a fault.
-fn write_piece<W: Write>(writer: &mut W, piece: &[u8]) -> Result<(), Failed> {
+fn write_piece<W: Write>(writer: &mut W, piece: &[u8]) -> Result<(), Failed>
+    ensures { AppendsAtMost (W.contents writer.old) (W.contents writer.new) result piece.now }
+{
     let mut rest = piece;
     while !rest.is_empty() {
         match writer.write(rest) {
@@ -67,11 +73,14 @@ fn write_piece<W: Write>(writer: &mut W, piece: &[u8]) -> Result<(), Failed> {
             Err(_error) => return Err(Failed),
         }
     }
-    writer.flush().map_err(|_error| Failed)
+    match writer.flush() {
+        Ok(()) => Ok(()),
+        Err(_error) => Err(Failed),
+    }
 }
 
 impl<W: Write> Sink for StdSink<W> {
-    ghost held = { λ _. None };
+    ghost held = { λ s. W.contents s.writer };
 
     ghost count = { λ s. s.faults };
 

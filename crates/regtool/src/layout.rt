@@ -8,8 +8,6 @@ ghost use Rattle.regtool.specs.Layout.{rule_words, rules_words, collection_words
 ghost use Rattle.regtool.specs.Image.{image};
 
 mod pieces;
-#[cfg(test)]
-mod tests;
 
 use freq_range::Rule;
 use reg_base::{Bytes, OutOfMemory};

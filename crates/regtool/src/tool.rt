@@ -3,6 +3,9 @@
 ghost use Rattle.std.specs.Prelude.{◌↔◌, IfErr, IfOk, IsTrue};
 ghost use Rattle.regtool.specs.Answer.{IsAnswer, IsCompile, IsCompiled, IsComplete, IsFileOf, IsRefusal};
 
+#[cfg(test)]
+mod tests;
+
 use crate::input::{ReadStop, read_to_end};
 use crate::layout::{WriteFault, layout};
 use crate::status::{InputFault, Status};

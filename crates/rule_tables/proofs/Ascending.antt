@@ -43,8 +43,8 @@ same_from_elements key (x ∷ xs) [] up_x up_y to from = absurd (Contains-nothin
 same_from_elements key (x ∷ xs) (y ∷ ys) up_x up_y to from =
     let same = same_first key x y xs ys up_x up_y (to x (Contains-head x xs)) (from y (Contains-head y ys)) in
     cons_same same (same_from_elements key xs ys (pairs_rest (λ a b. key a < key b) x xs up_x) (pairs_rest (λ a b. key a < key b) y ys up_y)
-      (λ z has. behind_too key x y z xs ys up_x same has (to z (Contains-later x xs z has)))
-      (λ z has. behind_too key y x z ys xs up_y (sym same) has (from z (Contains-later y ys z has))))
+    (λ z has. behind_too key x y z xs ys up_x same has (to z (Contains-later x xs z has)))
+    (λ z has. behind_too key y x z ys xs up_y (sym same) has (from z (Contains-later y ys z has))))
   where
     cons_same : x ≡ y → xs ≡ ys → x ∷ xs ≡ y ∷ ys
     cons_same p q = cc

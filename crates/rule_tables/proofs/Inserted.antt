@@ -1,11 +1,10 @@
 -- A database stays one where a domain is put in at its place.
-use Rattle.std.proofs.Common.{◌≡◌, ◌≢◌, ℕ, ◌+◌, ◌*◌, ◌-◌, ◌<◌, ◌≤◌, ◌⊎◌, List, length, get_or, insert, All, AllPairs, Contains, arith, refl, sym, ◌∙◌, ap, subst, inl, inr}
-use Rattle.std.proofs.lemmas.Bool.{cases_lt, cases_order}
-use Rattle.std.proofs.lemmas.List.{get_or_default}
+use Rattle.std.proofs.Common.{◌≡◌, ℕ, ◌<◌, ◌≤◌, List, length, get_or, insert, arith, sym, ap, inl, inr}
+use Rattle.std.proofs.lemmas.Bool.{cases_order}
 use Rattle.std.proofs.lemmas.List.Elements.{Contains-get_or}
 use Rattle.rule_tables.specs.declared.code.Alpha2.{Alpha2}
 use Rattle.rule_tables.specs.declared.domain.Domain.{Domain}
-use Rattle.rule_tables.specs.Code.{IsCode, IsCapital, key}
+use Rattle.rule_tables.specs.Code.{IsCode, key}
 use Rattle.rule_tables.specs.Databases.{IsDb, IsDomain, HasCode}
 use Rattle.rule_tables.proofs.InOrder.{All-insert, AllPairs-insert}
 

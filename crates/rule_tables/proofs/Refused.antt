@@ -1,13 +1,13 @@
 -- A domain of a new code that a database may hold is refused for want of memory alone.
-use Rattle.std.proofs.Common.{◌≡◌, ◌≢◌, ℕ, ◌<◌, ◌≤◌, false, List, [], length, get_or, arith, refl}
+use Rattle.std.proofs.Common.{◌≡◌, false, List, length, arith, refl}
 use Rattle.freq_range.specs.declared.rule.Rule.{Rule}
 use Rattle.rule_tables.specs.declared.domain.Domain.{Domain}
 use Rattle.rule_tables.specs.declared.domain.DomainFault.{DomainFault}
 use Rattle.rule_tables.specs.declared.domain.DomainFault.TheVariants.{NoRules, TooMany, BadRule}
 use Rattle.rule_tables.specs.declared.database.DbInsertFault.{DbInsertFault}
 use Rattle.rule_tables.specs.declared.database.DbInsertFault.TheVariants.{Twice, BadCode, Repeated, Bad, OutOfMemory}
-use Rattle.rule_tables.specs.Domains.{AreRules, AreDistinct, IsDomainFault}
-use Rattle.rule_tables.specs.Databases.{HasCode, IsDomain, IsInsertFault, IsRepeatedAt}
+use Rattle.rule_tables.specs.Domains.{AreRules, IsDomainFault}
+use Rattle.rule_tables.specs.Databases.{HasCode, IsDomain, IsInsertFault}
 
 -- some rule, where one has to be named
 some_rule : Rule

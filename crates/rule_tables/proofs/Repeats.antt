@@ -1,5 +1,5 @@
 -- Repeats in a list of rules, by places and by what stands before.
-use Rattle.std.proofs.Common.{◌≡◌, ◌≢◌, ℕ, ◌<◌, ◌≤◌, List, length, take, get_or, Contains, arith, sym, ◌∙◌}
+use Rattle.std.proofs.Common.{◌≡◌, ℕ, ◌<◌, List, length, take, get_or, Contains, arith, sym, ◌∙◌}
 use Rattle.std.proofs.lemmas.List.{length-take-le, get_or-take, get_or_default}
 use Rattle.freq_range.specs.declared.rule.Rule.{Rule}
 use Rattle.rule_tables.specs.Databases.{IsRepeatedAt}

@@ -34,7 +34,7 @@ IsInsertFault ds d Twice = HasCode ds d.alpha2
 IsInsertFault ds d BadCode = (HasCode ds d.alpha2 → ⊥) × (IsCode d.alpha2 → ⊥)
 IsInsertFault ds d (Repeated k) = (HasCode ds d.alpha2 → ⊥) × IsCode d.alpha2 × IsFirst (IsRepeatedAt d.rules) k
 IsInsertFault ds d (Bad fault) = (HasCode ds d.alpha2 → ⊥) × IsCode d.alpha2 × AreDistinct d.rules × IsDomainFault d.rules fault
-IsInsertFault ds d OutOfMemory = Unit {0}
+IsInsertFault ds d OutOfMemory = (HasCode ds d.alpha2 → ⊥) × IsDomain d
 
 -- the domain was put in among the others, which keep their order
 pub record Inserts (old new : List Domain) (d : Domain) : Type 0 where

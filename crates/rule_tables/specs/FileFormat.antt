@@ -8,7 +8,6 @@ use Rattle.freq_range.specs.declared.flags.RuleFlags.{RuleFlags}
 use Rattle.freq_range.specs.declared.rule.Rule.{Rule}
 use Rattle.rule_tables.specs.Code.{IsCode}
 use Rattle.rule_tables.specs.Databases.{IsDb}
-use Rattle.rule_tables.specs.declared.code.Alpha2.{Alpha2}
 use Rattle.rule_tables.specs.declared.code.Region.{Region}
 use Rattle.rule_tables.specs.declared.code.Region.TheVariants.{Unset, Fcc, Etsi, Jp}
 use Rattle.rule_tables.specs.declared.domain.Domain.{Domain}

@@ -121,7 +121,7 @@ impl Db {
     }
 
     /// Puts the domain in its place, or refuses it by the first of `Twice`, `BadCode`, `Repeated`,
-    /// `Bad` that applies. A refusal changes nothing.
+    /// `Bad` that applies, and by `OutOfMemory` only where none does. A refusal changes nothing.
     pub fn insert(&mut self, domain: Domain) -> Result<(), DbInsertFault>
         ensures ok { OnOk result (Inserts self.old self.new domain) }
         ensures cause { IfErr result (IsInsertFault self.old domain) }

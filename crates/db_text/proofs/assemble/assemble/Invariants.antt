@@ -1,4 +1,4 @@
-use Rattle.std.proofs.Common.{ℕ, vec_len}
+use Rattle.std.proofs.Common.{vec_len}
 use Rattle.db_text.proofs.Assembled.{Assembled}
 use Rattle.db_text.proofs.assemble.assemble.Given as goal
 

@@ -1,4 +1,4 @@
-use Rattle.std.proofs.Common.{◌≡◌, refl}
+use Rattle.std.proofs.Common.{refl}
 use Rattle.std.proofs.lemmas.Result.{MatchResult-weaker}
 use Rattle.db_text.proofs.KeptBlocks.{takes_rule, refuses_rule}
 use Rattle.db_text.proofs.blocks.add_rule.Goals as goal

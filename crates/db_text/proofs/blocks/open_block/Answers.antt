@@ -1,4 +1,3 @@
-use Rattle.std.proofs.Common.{◌≡◌, List, ◌∷◌, reverse}
 use Rattle.db_text.proofs.KeptBlocks.{HasBlock-reverse, HasBlock-from_reverse, reverse_push}
 use Rattle.db_text.proofs.blocks.open_block.Goals as goal
 

@@ -1,4 +1,3 @@
-use Rattle.std.proofs.Common.{◌≡◌}
 use Rattle.db_text.proofs.Finished.{first_without_rules, ready, stands_for}
 use Rattle.db_text.proofs.text.parse.Goals as goal
 

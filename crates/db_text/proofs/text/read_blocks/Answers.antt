@@ -1,4 +1,4 @@
-use Rattle.std.proofs.Common.{◌≡◌, refl, inl}
+use Rattle.std.proofs.Common.{refl, inl}
 use Rattle.db_text.proofs.Finished.{is_kind}
 use Rattle.db_text.proofs.ReadSoFar.{read_nothing, read_more, refused_first, cut_lines, cut_shorter}
 use Rattle.db_text.proofs.text.read_blocks.Goals as goal

@@ -1,4 +1,3 @@
-use Rattle.std.proofs.Common.{ℕ}
 use Rattle.std.specs.Option.{option_copied}
 use Rattle.db_text.proofs.ReadSoFar.{ReadSoFar, size_left}
 use Rattle.db_text.proofs.text.read_blocks.Given as goal

@@ -1,4 +1,4 @@
-use Rattle.std.proofs.Common.{◌≡◌, ℕ, ◌<◌, ◌+◌, below_more, arith}
+use Rattle.std.proofs.Common.{below_more, arith}
 use Rattle.std.proofs.lemmas.List.{get_or_default}
 use Rattle.rule_tables.specs.Databases.{IsRepeatedAt}
 use Rattle.rule_tables.proofs.Repeats.{before_from_repeated, distinct_from_unrepeated}

@@ -1,4 +1,4 @@
-use Rattle.std.proofs.Common.{◌≡◌, ℕ, ◌<◌, ◌+◌, insert, refl}
+use Rattle.std.proofs.Common.{insert, refl}
 use Rattle.rule_tables.specs.Databases.{IsDb}
 use Rattle.rule_tables.proofs.Inserted.{IsDb-insert}
 use Rattle.rule_tables.proofs.database.Db.insert.Goals as goal

@@ -1,0 +1,344 @@
+//! The program over memory, over failing objects and over std's readers and writers. The bytes of
+//! the files are written out by hand from the format.
+
+ghost use Rattle.std.specs.Prelude.{◌<◌};
+
+use super::regtool;
+use crate::status::{InputFault, Status, status_text};
+use db_text::{TextFault, TextKind};
+use reg_base::{Bytes, FailingSink, FailingSource, MemSink, MemSource, Source, StdSink, StdSource};
+use std::alloc::Global;
+use std::test::Fail;
+
+/// More than a file of these tests has.
+const ROOM: usize = 4096;
+
+/// A country with one rule.
+const US: &[u8] = b"country US: DFS-FCC\n\t(2400 - 2472 @ 40), (30)\n";
+
+/// Its file: the header, the entry of US with its collection at word 8, four zero bytes, the rule at
+/// word 4, and the collection with its rule at word 4.
+const US_FILE: [u8; 40] = [
+    0x52, 0x47, 0x44, 0x42, 0x00, 0x00, 0x00, 0x14, //
+    0x55, 0x53, 0x00, 0x08, //
+    0x00, 0x00, 0x00, 0x00, //
+    0x10, 0x00, 0x0b, 0xb8, 0x00, 0x24, 0x9f, 0x00, //
+    0x00, 0x25, 0xb8, 0x40, 0x00, 0x00, 0x9c, 0x40, //
+    0x03, 0x01, 0x01, 0x00, 0x00, 0x04, 0x00, 0x00,
+];
+
+/// Two countries with equal rules, the later code first.
+const TWO: &[u8] =
+    b"country BB: DFS-JP\n(2400 - 2472 @ 40), (30)\ncountry AA: DFS-FCC\n(2400 - 2472 @ 40), (30)\n";
+
+/// Their file: the header, the entries of AA and BB with their collections at words 13 and 15, four
+/// zero bytes, the rules at words 5 and 9, and the collections.
+const TWO_FILE: [u8; 68] = [
+    0x52, 0x47, 0x44, 0x42, 0x00, 0x00, 0x00, 0x14, //
+    0x41, 0x41, 0x00, 0x0d, 0x42, 0x42, 0x00, 0x0f, //
+    0x00, 0x00, 0x00, 0x00, //
+    0x10, 0x00, 0x0b, 0xb8, 0x00, 0x24, 0x9f, 0x00, //
+    0x00, 0x25, 0xb8, 0x40, 0x00, 0x00, 0x9c, 0x40, //
+    0x10, 0x00, 0x0b, 0xb8, 0x00, 0x24, 0x9f, 0x00, //
+    0x00, 0x25, 0xb8, 0x40, 0x00, 0x00, 0x9c, 0x40, //
+    0x03, 0x01, 0x01, 0x00, 0x00, 0x05, 0x00, 0x00, //
+    0x03, 0x01, 0x03, 0x00, 0x00, 0x09, 0x00, 0x00,
+];
+
+/// The file of an empty text: the header and four zero bytes.
+const EMPTY_FILE: [u8; 12] = [
+    0x52, 0x47, 0x44, 0x42, 0x00, 0x00, 0x00, 0x14, //
+    0x00, 0x00, 0x00, 0x00,
+];
+
+/// The words that stand in a line, parted by blanks.
+fn words(alloc: Global, line: &str) -> Result<Vec<String>, Fail> {
+    let mut words = Vec::new(alloc);
+    for word in line.split_whitespace() {
+        words.push(String::from_str(alloc, word)?)?;
+    }
+    Ok(words)
+}
+
+/// The text as bytes that a source may take.
+fn bytes(alloc: Global, text: &[u8]) -> Result<Bytes, Fail> {
+    let mut bytes = Bytes::new(alloc);
+    bytes.append(text)?;
+    Ok(bytes)
+}
+
+/// What `compile` answers, and the sink that it wrote to, which has the room.
+fn compile<S: Source>(
+    alloc: Global,
+    input: &mut S,
+    room: usize,
+) -> Result<(Status, MemSink), Fail> {
+    let words = words(alloc, "compile")?;
+    let mut out = MemSink::new(alloc, room)?;
+    let status = regtool(alloc, words.as_slice(), input, &mut out);
+    Ok((status, out))
+}
+
+/// What `compile` answers for the text, and the sink that it wrote to.
+fn compile_text(alloc: Global, text: &[u8]) -> Result<(Status, MemSink), Fail> {
+    let mut input = MemSource::new(bytes(alloc, text)?, 16);
+    compile(alloc, &mut input, ROOM)
+}
+
+/// The text is refused at that line.
+fn refused_at(line: u64) -> Status {
+    Status::Refused(InputFault::Text(TextFault {
+        line,
+        kind: TextKind::NotBuilt,
+    }))
+}
+
+#[test]
+fn texts_give_their_files(rt: HostRuntime) -> Result<(), Fail> {
+    let texts: [(&[u8], &[u8]); 7] = [
+        (US, &US_FILE),
+        (TWO, &TWO_FILE),
+        (b"", &EMPTY_FILE),
+        (b"# nothing\r\n\n \t\n", &EMPTY_FILE),
+        // no newline at the end, no blanks, leading zeros
+        (b"country US:DFS-FCC\n(02400-2472@40),(030)", &US_FILE),
+        // blanks within words, comments, carriage returns
+        (
+            b"coun try U S : DFS - FCC # states\r\n( 24 00 - 2472 @ 40 ) , ( 30 ) # one\r\n",
+            &US_FILE,
+        ),
+        // empty lines and comments end no block
+        (
+            b"\ncountry US: DFS-FCC\n\n# one\n(2400 - 2472 @ 40), (30)",
+            &US_FILE,
+        ),
+    ];
+    for (text, file) in texts {
+        let (status, out) = compile_text(rt.alloc(), text)?;
+        assert_eq!(rt; status, Status::Done, "for {text:?}");
+        assert_eq!(rt; out.written(), file, "for {text:?}");
+    }
+    Ok(())
+}
+
+#[test]
+fn pieces_of_any_size_give_the_same(rt: HostRuntime) -> Result<(), Fail> {
+    for piece in 1..50 {
+        let mut input = MemSource::new(bytes(rt.alloc(), US)?, piece);
+        let (status, out) = compile(rt.alloc(), &mut input, ROOM)?;
+        assert_eq!(rt; status, Status::Done, "in pieces of {piece}");
+        assert_eq!(rt; out.written(), US_FILE.as_slice(), "in pieces of {piece}");
+    }
+    Ok(())
+}
+
+// The flags stand in the second byte of the rule, which is at word 4.
+#[test]
+fn flags_stand_in_their_byte(rt: HostRuntime) -> Result<(), Fail> {
+    for (flags, byte) in [
+        ("", 0x00),
+        (", NO-OFDM", 0x01),
+        (", NO-OUTDOOR", 0x02),
+        (", DFS", 0x04),
+        (", NO-IR", 0x08),
+        (", AUTO-BW", 0x10),
+        (", DFS, DFS", 0x04),
+        (", AUTO-BW, NO-IR, DFS, NO-OUTDOOR, NO-OFDM", 0x1f),
+    ] {
+        let text = format!(in rt.alloc(); "country US:\n(2400 - 2472 @ 40), (30){flags}\n")?;
+        let (status, out) = compile_text(rt.alloc(), text.as_bytes())?;
+        assert_eq!(rt; status, Status::Done, "for {flags}");
+        assert_eq!(rt; out.written().get(17), Some(&byte), "for {flags}");
+    }
+    Ok(())
+}
+
+#[test]
+fn faulty_texts_name_their_line(rt: HostRuntime) -> Result<(), Fail> {
+    let texts: [(&[u8], u64); 19] = [
+        // a rule before a header
+        (b"(2400 - 2472 @ 40), (30)\ncountry US:\n", 1),
+        // headers that are spelled otherwise
+        (b"country us:\n", 1),
+        (b"country USA:\n", 1),
+        (b"country US\n", 1),
+        (b"country US: DFS-XX\n", 1),
+        // an unknown flag, and another fault that comes later; a comma without a flag
+        (b"country US:\n(2400 - 2472 @ 40), (30), LOUD\nx\n", 2),
+        (b"country US:\n(2400 - 2472 @ 40), (30),\n", 2),
+        // a power above the limit, an empty range, a width above the span, a fraction, a frequency above
+        // 4,294,967,295 kHz
+        (b"country US:\n(2400 - 2472 @ 40), (656)\n", 2),
+        (b"country US:\n(2472 - 2400 @ 40), (30)\n", 2),
+        (b"country US:\n(2400 - 2420 @ 40), (30)\n", 2),
+        (b"country US:\n(2400.5 - 2472 @ 40), (30)\n", 2),
+        (b"country US:\n(2400 - 4294968 @ 40), (30)\n", 2),
+        // a comment that isn't UTF-8
+        (b"\n# \xff\n", 2),
+        // a header without rules, the first of them, and one before a line at fault
+        (b"country US:\n", 1),
+        (b"country US:\n\ncountry CA:\n(2400 - 2472 @ 40), (30)\n", 1),
+        (
+            b"country US:\n(2400 - 2472 @ 40), (30)\ncountry CA:\ncountry MX:\n",
+            3,
+        ),
+        (b"country US:\n\ncountry ca:\n", 3),
+        // a header, and a rule, that were there before
+        (
+            b"country US:\n(2400 - 2472 @ 40), (30)\n\ncountry US: DFS-JP\n(5170 - 5250 @ 80), (20)\n",
+            4,
+        ),
+        (
+            b"country US:\n(2400 - 2472 @ 40), (30)\n(2400 - 2472 @ 40), (30)\n",
+            3,
+        ),
+    ];
+    for (text, line) in texts {
+        let (status, out) = compile_text(rt.alloc(), text)?;
+        assert_eq!(rt; status, refused_at(line), "for {text:?}");
+        assert!(rt; out.written().is_empty(), "for {text:?}");
+    }
+    Ok(())
+}
+
+#[test]
+fn a_line_has_at_most_4096_bytes(rt: HostRuntime) -> Result<(), Fail> {
+    for (count, wanted) in [(4096, Status::Done), (4097, refused_at(1))] {
+        let line = vec![in rt.alloc(); b'#'; count]?;
+        let (status, _out) = compile_text(rt.alloc(), line.as_slice())?;
+        assert_eq!(rt; status, wanted, "for {count} bytes");
+    }
+    Ok(())
+}
+
+/// A country with so many rules, in the lines from 2 on.
+fn many_rules(alloc: Global, count: u32) -> Result<String, Fail> {
+    let mut text = String::from_str(alloc, "country US:\n")?;
+    for k in 0..count {
+        let start = k + 1;
+        let rule = format!(in alloc; "({start} - 3000 @ 20), (20)\n")?;
+        text.push_str(rule.as_str())?;
+    }
+    Ok(text)
+}
+
+#[test]
+fn a_country_has_at_most_128_rules(rt: HostRuntime) -> Result<(), Fail> {
+    for (count, wanted) in [(128, Status::Done), (129, refused_at(130))] {
+        let text = many_rules(rt.alloc(), count)?;
+        let (status, _out) = compile_text(rt.alloc(), text.as_bytes())?;
+        assert_eq!(rt; status, wanted, "for {count} rules");
+    }
+    Ok(())
+}
+
+#[test]
+fn a_text_has_at_most_16777216_bytes(rt: HostRuntime) -> Result<(), Fail> {
+    for (count, wanted) in [(16_777_216, Status::Done), (16_777_217, Status::TooLong)] {
+        let lines = vec![in rt.alloc(); b'\n'; count]?;
+        let mut input = StdSource::new(lines.as_slice());
+        let (status, _out) = compile(rt.alloc(), &mut input, ROOM)?;
+        assert_eq!(rt; status, wanted, "for {count} bytes");
+    }
+    Ok(())
+}
+
+#[test]
+fn other_words_are_usage(rt: HostRuntime) -> Result<(), Fail> {
+    for line in ["", "decompile", "compile x", "compile compile", "COMPILE"] {
+        let words = words(rt.alloc(), line)?;
+        let mut input = MemSource::new(bytes(rt.alloc(), US)?, 16);
+        let mut out = MemSink::new(rt.alloc(), ROOM)?;
+        let status = regtool(rt.alloc(), words.as_slice(), &mut input, &mut out);
+        assert_eq!(rt; status, Status::Usage, "for {line}");
+        assert!(rt; out.written().is_empty(), "for {line}");
+    }
+    Ok(())
+}
+
+// The text has 46 bytes, so it takes three reads of 20 bytes, and one more that finds its end.
+#[test]
+fn a_failed_read_writes_nothing(rt: HostRuntime) -> Result<(), Fail> {
+    for call in 1..6 {
+        let text = bytes(rt.alloc(), US)?;
+        let mut input = FailingSource::new(rt.alloc(), text, 20, &[call])?;
+        let (status, out) = compile(rt.alloc(), &mut input, ROOM)?;
+        if call < 5 {
+            assert_eq!(rt; status, Status::ReadFault, "at read {call}");
+            assert!(rt; out.written().is_empty(), "at read {call}");
+        } else {
+            assert_eq!(rt; status, Status::Done, "at read {call}");
+        }
+    }
+    Ok(())
+}
+
+#[test]
+fn a_failed_write_is_told(rt: HostRuntime) -> Result<(), Fail> {
+    let words = words(rt.alloc(), "compile")?;
+    let mut input = MemSource::new(bytes(rt.alloc(), US)?, 16);
+    let mut out = FailingSink::new(rt.alloc(), ROOM, &[1])?;
+    let status = regtool(rt.alloc(), words.as_slice(), &mut input, &mut out);
+    assert_eq!(rt; status, Status::WriteFault);
+    assert!(rt; out.written().is_empty());
+    Ok(())
+}
+
+// A slice takes what it has room for, and then nothing more.
+#[test]
+fn a_write_that_stops_leaves_a_front(rt: HostRuntime) -> Result<(), Fail> {
+    let words = words(rt.alloc(), "compile")?;
+    let mut room = [0u8; 21];
+    let mut input = MemSource::new(bytes(rt.alloc(), US)?, 16);
+    let mut out = StdSink::new(room.as_mut_slice());
+    let status = regtool(rt.alloc(), words.as_slice(), &mut input, &mut out);
+    assert_eq!(rt; status, Status::WriteFault);
+    drop(out);
+    assert_eq!(rt; room.as_slice(), &US_FILE[..21]);
+    Ok(())
+}
+
+#[test]
+fn a_file_needs_room_for_all_of_it(rt: HostRuntime) -> Result<(), Fail> {
+    for (room, wanted) in [(39, Status::WriteFault), (40, Status::Done)] {
+        let mut input = MemSource::new(bytes(rt.alloc(), US)?, 16);
+        let (status, _out) = compile(rt.alloc(), &mut input, room)?;
+        assert_eq!(rt; status, wanted, "with room for {room}");
+    }
+    Ok(())
+}
+
+#[test]
+fn readers_and_writers_of_std_are_streams(rt: HostRuntime) -> Result<(), Fail> {
+    let words = words(rt.alloc(), "compile")?;
+    let mut written = Vec::new(rt.alloc());
+    let mut input = StdSource::new(US);
+    let mut out = StdSink::new(&mut written);
+    let status = regtool(rt.alloc(), words.as_slice(), &mut input, &mut out);
+    assert_eq!(rt; status, Status::Done);
+    assert_eq!(rt; written.as_slice(), US_FILE.as_slice());
+    Ok(())
+}
+
+#[test]
+fn each_status_has_its_text(rt: HostRuntime) -> Result<(), Fail> {
+    for (status, number, text) in [
+        (Status::Done, 0, ""),
+        (Status::Usage, 1, "usage\n"),
+        (refused_at(7), 2, "line 7: NotBuilt\n"),
+        (
+            Status::Refused(InputFault::Layout { words: 65_536 }),
+            2,
+            "too large: 65536 words\n",
+        ),
+        (Status::ReadFault, 3, "read fault\n"),
+        (Status::WriteFault, 4, "write fault\n"),
+        (Status::NoMemory, 5, "no memory\n"),
+        (Status::TooLong, 6, "input too long\n"),
+    ] {
+        assert_eq!(rt; status.number(), number, "for {text}");
+        let told = status_text(rt.alloc(), &status)?;
+        assert_eq!(rt; told.as_slice(), text.as_bytes(), "for {text}");
+    }
+    Ok(())
+}
