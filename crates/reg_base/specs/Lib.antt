@@ -1,3 +1,4 @@
 pub mod Appended
 pub mod Causes
 pub mod Memory
+pub mod Streams

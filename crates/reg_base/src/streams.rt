@@ -3,6 +3,7 @@
 
 ghost use Rattle.std.specs.Prelude.{◌≡◌};
 ghost use Rattle.reg_base.specs.Appended.{AppendsAtMost};
+ghost use Rattle.reg_base.specs.Streams.{reader_of, failed_reads, writer_of, failed_writes};
 
 use crate::errors::Failed;
 use crate::sink::Sink;
@@ -18,17 +19,17 @@ pub struct StdSource<R: Read> {
 
 impl<R: Read> StdSource<R> {
     pub fn new(reader: R) -> StdSource<R>
-        ensures left { ⟦<StdSource<R> as Source>⟧.left result ≡ R.remaining reader }
-        ensures count { ⟦<StdSource<R> as Source>⟧.count result ≡ 0 }
+        ensures reader { reader_of result ≡ reader }
+        ensures faults { failed_reads result ≡ 0 }
     {
         StdSource { reader, faults: 0 }
     }
 }
 
 impl<R: Read> Source for StdSource<R> {
-    ghost left = { λ s. R.remaining s.reader };
+    ghost left = { λ s. R.remaining (reader_of s) };
 
-    ghost count = { λ s. s.faults };
+    ghost count = { λ s. failed_reads s };
 
     fn read(&mut self, buf: &mut [u8]) -> Result<usize, Failed> {
         match self.reader.read(buf) {
@@ -54,8 +55,8 @@ pub struct StdSink<W: Write> {
 
 impl<W: Write> StdSink<W> {
     pub fn new(writer: W) -> StdSink<W>
-        ensures held { ⟦<StdSink<W> as Sink>⟧.held result ≡ W.contents writer }
-        ensures count { ⟦<StdSink<W> as Sink>⟧.count result ≡ 0 }
+        ensures writer { writer_of result ≡ writer }
+        ensures faults { failed_writes result ≡ 0 }
     {
         StdSink { writer, faults: 0 }
     }
@@ -80,9 +81,9 @@ fn write_piece<W: Write>(writer: &mut W, piece: &[u8]) -> Result<(), Failed>
 }
 
 impl<W: Write> Sink for StdSink<W> {
-    ghost held = { λ s. W.contents s.writer };
+    ghost held = { λ s. W.contents (writer_of s) };
 
-    ghost count = { λ s. s.faults };
+    ghost count = { λ s. failed_writes s };
 
     fn write_all(&mut self, piece: &[u8]) -> Result<(), Failed> {
         let written = write_piece(&mut self.writer, piece);

@@ -1,0 +1,18 @@
+-- What contracts see of a source over a reader and of a sink over a writer.
+use Rattle.std.specs.Prelude.{ℕ}
+use Rattle.reg_base.specs.declared.streams.StdSink.{StdSink}
+use Rattle.reg_base.specs.declared.streams.StdSource.{StdSource}
+
+-- the reader below a source, and how many of its reads failed
+abbrev pub reader_of : {R : Type 0} → StdSource R → R
+reader_of s = s.reader
+
+abbrev pub failed_reads : {R : Type 0} → StdSource R → ℕ
+failed_reads s = s.faults
+
+-- the writer below a sink, and how many writes failed
+abbrev pub writer_of : {W : Type 0} → StdSink W → W
+writer_of s = s.writer
+
+abbrev pub failed_writes : {W : Type 0} → StdSink W → ℕ
+failed_writes s = s.faults
