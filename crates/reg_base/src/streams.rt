@@ -1,7 +1,10 @@
 //! Sources and sinks over readers and writers, which tell the bytes that those tell. The standard
 //! streams tell none: the trusted edge.
 
-ghost use Rattle.std.specs.Prelude.{◌≡◌};
+ghost use Rattle.std.specs.Prelude.{◌≡◌, ◌<◌, length, MatchResult};
+ghost use Rattle.std.specs.Io.{ReadsAtMost};
+ghost use Rattle.std.specs.Io.KnownBytes.{ReadConsumes};
+ghost use Rattle.reg_base.specs.Causes.{HasCause, counted};
 ghost use Rattle.reg_base.specs.Appended.{AppendsAtMost};
 ghost use Rattle.reg_base.specs.Streams.{reader_of, failed_reads, writer_of, failed_writes};
 
@@ -31,7 +34,13 @@ impl<R: Read> Source for StdSource<R> {
 
     ghost count = { λ s. failed_reads s };
 
-    fn read(&mut self, buf: &mut [u8]) -> Result<usize, Failed> {
+    fn read(&mut self, buf: &mut [u8]) -> Result<usize, Failed>
+        requires { 0 < length buf.old }
+        ensures bound { ReadsAtMost result buf.new }
+        ensures bytes { ReadConsumes (R.remaining (reader_of self.old)) (R.remaining (reader_of self.new)) result buf.new }
+        ensures cause { HasCause (failed_reads self.old) (failed_reads self.new) result }
+        ensures faults { MatchResult result (λ _. failed_reads self.new ≡ failed_reads self.old) (λ _. failed_reads self.new ≡ counted (failed_reads self.old)) }
+    {
         match self.reader.read(buf) {
             Ok(count) => Ok(count),
             Err(_error) => {
@@ -85,7 +94,11 @@ impl<W: Write> Sink for StdSink<W> {
 
     ghost count = { λ s. failed_writes s };
 
-    fn write_all(&mut self, piece: &[u8]) -> Result<(), Failed> {
+    fn write_all(&mut self, piece: &[u8]) -> Result<(), Failed>
+        ensures bytes { AppendsAtMost (W.contents (writer_of self.old)) (W.contents (writer_of self.new)) result piece.now }
+        ensures cause { HasCause (failed_writes self.old) (failed_writes self.new) result }
+        ensures faults { MatchResult result (λ _. failed_writes self.new ≡ failed_writes self.old) (λ _. failed_writes self.new ≡ counted (failed_writes self.old)) }
+    {
         let written = write_piece(&mut self.writer, piece);
         if written.is_err() {
             self.faults = self.faults.saturating_add(1);

@@ -1,6 +1,6 @@
 //! The program as a function of its words, its input and its output.
 
-ghost use Rattle.std.specs.Prelude.{◌↔◌, IfErr, IfOk, IsTrue};
+ghost use Rattle.std.specs.Prelude.{◌≤◌, ◌↔◌, IfErr, IfOk, IsTrue};
 ghost use Rattle.regtool.specs.Answer.{IsAnswer, IsCompile, IsCompiled, IsComplete, IsFileOf, IsRefusal};
 
 #[cfg(test)]
@@ -46,6 +46,8 @@ pub fn regtool<S: Source, K: Sink>(
       input = record { before = S.left input.old; after = S.left input.new; faults_before = S.count input.old; faults_after = S.count input.new };
       output = record { before = K.held out.old; after = K.held out.new; faults_before = K.count out.old; faults_after = K.count out.new };
     }) result }
+    ensures input_faults { S.count input.old ≤ S.count input.new }
+    ensures output_faults { K.count out.old ≤ K.count out.new }
 {
     dispatch(alloc, words, input, out)
 }
@@ -57,7 +59,9 @@ fn dispatch<S: Source, K: Sink>(
     input: &mut S,
     out: &mut K,
 ) -> Status
-    ensures { IsAnswer (record {
+    ensures input_faults { S.count input.old ≤ S.count input.new }
+    ensures output_faults { K.count out.old ≤ K.count out.new }
+    ensures answer { IsAnswer (record {
       words = words.now;
       input = record { before = S.left input.old; after = S.left input.new; faults_before = S.count input.old; faults_after = S.count input.new };
       output = record { before = K.held out.old; after = K.held out.new; faults_before = K.count out.old; faults_after = K.count out.new };
@@ -81,7 +85,9 @@ fn is_compile(words: &[String]) -> bool
 
 /// Reads a rule text to its end, and writes its database once all of it is accepted.
 fn compile<S: Source, K: Sink>(alloc: Global, input: &mut S, out: &mut K) -> Status
-    ensures { IsCompiled
+    ensures input_faults { S.count input.old ≤ S.count input.new }
+    ensures output_faults { K.count out.old ≤ K.count out.new }
+    ensures compiled { IsCompiled
         (record { before = S.left input.old; after = S.left input.new; faults_before = S.count input.old; faults_after = S.count input.new })
         (record { before = K.held out.old; after = K.held out.new; faults_before = K.count out.old; faults_after = K.count out.new })
         result }

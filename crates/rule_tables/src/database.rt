@@ -145,7 +145,7 @@ impl Db {
         find_in(self.domains.as_slice(), alpha2)
     }
 
-    /// How many domains there are: as many as codes at the most.
+    /// How many domains there are.
     pub fn len(&self) -> usize
         ensures { result ≡ length self.now }
     {
