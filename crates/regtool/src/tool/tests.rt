@@ -8,6 +8,7 @@ use crate::status::{InputFault, Status, status_text};
 use db_text::{TextFault, TextKind};
 use reg_base::{Bytes, FailingSink, FailingSource, MemSink, MemSource, Source, StdSink, StdSource};
 use std::alloc::Global;
+use std::process::Abort;
 use std::test::Fail;
 
 /// More than a file of these tests has.
@@ -153,16 +154,46 @@ fn flags_stand_in_their_byte(rt: HostRuntime) -> Result<(), Fail> {
     Ok(())
 }
 
+/// Nothing is written for these texts, whose faulty lines are given.
+fn are_refused(rt: &impl Abort, alloc: Global, texts: &[(&[u8], u64)]) -> Result<(), Fail> {
+    for (text, line) in texts {
+        let (status, out) = compile_text(alloc, text)?;
+        assert_eq!(rt; status, refused_at(*line), "for {text:?}");
+        assert!(rt; out.written().is_empty(), "for {text:?}");
+    }
+    Ok(())
+}
+
 #[test]
-fn faulty_texts_name_their_line(rt: HostRuntime) -> Result<(), Fail> {
-    let texts: [(&[u8], u64); 19] = [
-        // a rule before a header
-        (b"(2400 - 2472 @ 40), (30)\ncountry US:\n", 1),
+fn faulty_headers_name_their_line(rt: HostRuntime) -> Result<(), Fail> {
+    let texts: [(&[u8], u64); 9] = [
         // headers that are spelled otherwise
         (b"country us:\n", 1),
         (b"country USA:\n", 1),
         (b"country US\n", 1),
         (b"country US: DFS-XX\n", 1),
+        // a header without rules, the first of them, and one before a line at fault
+        (b"country US:\n", 1),
+        (b"country US:\n\ncountry CA:\n(2400 - 2472 @ 40), (30)\n", 1),
+        (
+            b"country US:\n(2400 - 2472 @ 40), (30)\ncountry CA:\ncountry MX:\n",
+            3,
+        ),
+        (b"country US:\n\ncountry ca:\n", 3),
+        // a header that was there before
+        (
+            b"country US:\n(2400 - 2472 @ 40), (30)\n\ncountry US: DFS-JP\n(5170 - 5250 @ 80), (20)\n",
+            4,
+        ),
+    ];
+    are_refused(&rt, rt.alloc(), &texts)
+}
+
+#[test]
+fn faulty_rules_name_their_line(rt: HostRuntime) -> Result<(), Fail> {
+    let texts: [(&[u8], u64); 10] = [
+        // a rule before a header
+        (b"(2400 - 2472 @ 40), (30)\ncountry US:\n", 1),
         // an unknown flag, and another fault that comes later; a comma without a flag
         (b"country US:\n(2400 - 2472 @ 40), (30), LOUD\nx\n", 2),
         (b"country US:\n(2400 - 2472 @ 40), (30),\n", 2),
@@ -175,30 +206,13 @@ fn faulty_texts_name_their_line(rt: HostRuntime) -> Result<(), Fail> {
         (b"country US:\n(2400 - 4294968 @ 40), (30)\n", 2),
         // a comment that isn't UTF-8
         (b"\n# \xff\n", 2),
-        // a header without rules, the first of them, and one before a line at fault
-        (b"country US:\n", 1),
-        (b"country US:\n\ncountry CA:\n(2400 - 2472 @ 40), (30)\n", 1),
-        (
-            b"country US:\n(2400 - 2472 @ 40), (30)\ncountry CA:\ncountry MX:\n",
-            3,
-        ),
-        (b"country US:\n\ncountry ca:\n", 3),
-        // a header, and a rule, that were there before
-        (
-            b"country US:\n(2400 - 2472 @ 40), (30)\n\ncountry US: DFS-JP\n(5170 - 5250 @ 80), (20)\n",
-            4,
-        ),
+        // a rule that was there before
         (
             b"country US:\n(2400 - 2472 @ 40), (30)\n(2400 - 2472 @ 40), (30)\n",
             3,
         ),
     ];
-    for (text, line) in texts {
-        let (status, out) = compile_text(rt.alloc(), text)?;
-        assert_eq!(rt; status, refused_at(line), "for {text:?}");
-        assert!(rt; out.written().is_empty(), "for {text:?}");
-    }
-    Ok(())
+    are_refused(&rt, rt.alloc(), &texts)
 }
 
 #[test]
