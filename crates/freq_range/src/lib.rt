@@ -5,8 +5,10 @@ mod errors;
 mod flags;
 mod list;
 mod rule;
+mod wmm;
 
 pub use errors::OutOfMemory;
 pub use flags::RuleFlags;
 pub use list::{RuleList, contains_rule};
 pub use rule::Rule;
+pub use wmm::{Wmm, WmmEntry};

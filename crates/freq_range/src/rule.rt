@@ -1,8 +1,10 @@
 //! A rule.
 
-ghost use Rattle.std.specs.Prelude.{◌≡◌, ◌↔◌, IsTrue};
+ghost use Rattle.std.specs.Prelude.{◌≡◌, ◌↔◌, IfSome, IsTrue};
+ghost use Rattle.freq_range.specs.Valid.{IsValidWmm};
 
 use crate::flags::RuleFlags;
+use crate::wmm::Wmm;
 
 /// What one range of frequencies allows (`struct ieee80211_reg_rule`; a rule record of
 /// `regulatory.db`).
@@ -19,19 +21,44 @@ pub struct Rule {
     pub eirp_mbm: u16,
     /// How long a channel is checked for radar, in seconds, or 0 where the rule doesn't say.
     pub cac_s: u16,
+    pub wmm: Option<Wmm>,
+}
+
+/// Whether a WMM rule, if there is one, is valid.
+fn is_valid_wmm(wmm: &Option<Wmm>) -> bool
+    ensures { IsTrue result ↔ IfSome wmm.now IsValidWmm }
+{
+    match wmm {
+        Some(wmm) => wmm.is_valid(),
+        None => true,
+    }
+}
+
+/// Whether both are the same WMM rule, or neither is one.
+fn is_same_wmm(one: &Option<Wmm>, other: &Option<Wmm>) -> bool
+    ensures { IsTrue result ↔ (one.now ≡ other.now) }
+{
+    match (one, other) {
+        (Some(one), Some(other)) => one.is_same(other),
+        (None, None) => true,
+        _ => false,
+    }
 }
 
 impl Rule {
     ghost use Rattle.freq_range.specs.Valid.{IsValidRule};
 
-    /// Whether the range isn't empty, begins above 0 and holds the width.
+    /// Whether the range isn't empty, begins above 0 and holds the width, and the WMM rule, if there
+    /// is one, is valid.
     pub fn is_valid(&self) -> bool
         ensures { IsTrue result ↔ IsValidRule self.now }
     {
-        let rule = *self;
-        0 < rule.start_khz
-            && rule.start_khz < rule.end_khz
-            && rule.max_bw_khz <= rule.end_khz - rule.start_khz
+        let (start_khz, end_khz) = (self.start_khz, self.end_khz);
+        let (_eirp_mbm, _cac_s) = (self.eirp_mbm, self.cac_s);
+        0 < start_khz
+            && start_khz < end_khz
+            && self.max_bw_khz <= end_khz - start_khz
+            && is_valid_wmm(&self.wmm)
     }
 
     /// Whether both are the same rule.
@@ -44,5 +71,6 @@ impl Rule {
             && self.flags.is_same(&other.flags)
             && self.eirp_mbm == other.eirp_mbm
             && self.cac_s == other.cac_s
+            && is_same_wmm(&self.wmm, &other.wmm)
     }
 }

@@ -1,5 +1,5 @@
 -- A domain of a new code that a database may hold is refused for want of memory alone.
-use Rattle.std.proofs.Common.{◌≡◌, false, List, length, arith, refl}
+use Rattle.std.proofs.Common.{◌≡◌, false, List, None, length, arith, refl}
 use Rattle.freq_range.specs.declared.rule.Rule.{Rule}
 use Rattle.rule_tables.specs.declared.domain.Domain.{Domain}
 use Rattle.rule_tables.specs.declared.domain.DomainFault.{DomainFault}
@@ -18,6 +18,7 @@ some_rule = record {
   flags = record { no_ofdm = false; no_outdoor = false; dfs = false; no_ir = false; auto_bw = false };
   eirp_mbm = 0;
   cac_s = 0;
+  wmm = None;
 }
 
 no_domain_fault : (rules : List Rule) (fault : DomainFault) → AreRules rules → IsDomainFault rules fault → ⊥

@@ -1,11 +1,13 @@
 -- What the bytes of a `regulatory.db` of version 20 say, by places. All numbers are big-endian, and a pointer is the
 -- place of a record divided by 4. `docs/FORMATS.md` has the format in words.
-use Rattle.std.specs.Prelude.{◌≡◌, ◌≢◌, ℕ, ◌+◌, ◌*◌, ◌/◌, ◌%◌, ◌<◌, ◌≤◌, ◌==◌, ◌⊎◌, Bool, nat_le, List, [], ◌∷◌, ◌++◌, length, reverse, All, Contains, slice_index, slice_index_or, if◌then◌else◌}
+use Rattle.std.specs.Prelude.{◌≡◌, ◌≢◌, ℕ, ◌+◌, ◌*◌, ◌/◌, ◌%◌, ◌<◌, ◌≤◌, ◌==◌, ◌⊎◌, Bool, nat_le, List, [], ◌∷◌, ◌++◌, length, reverse, All, Contains, slice_index, slice_index_or, Option, Some, None, if◌then◌else◌}
 use Rattle.byteorder.specs.Endian.{big_from}
 use Rattle.freq_range.specs.First.{IsFirst}
 use Rattle.freq_range.specs.Valid.{IsValidRule}
 use Rattle.freq_range.specs.declared.flags.RuleFlags.{RuleFlags}
 use Rattle.freq_range.specs.declared.rule.Rule.{Rule}
+use Rattle.freq_range.specs.declared.wmm.Wmm.{Wmm}
+use Rattle.freq_range.specs.declared.wmm.WmmEntry.{WmmEntry}
 use Rattle.rule_tables.specs.Code.{IsCode}
 use Rattle.rule_tables.specs.Databases.{IsDb}
 use Rattle.rule_tables.specs.declared.code.Region.{Region}
@@ -45,11 +47,34 @@ flags_in byte = record {
   auto_bw = has_bit byte 16;
 }
 
+-- The four bytes at place i are an entry of a WMM rule: the two exponents in one byte, the AIFSN and the COT.
+pub record WmmEntryAt (b : List ℕ) (i : ℕ) (e : WmmEntry) : Type 0 where
+  pub least_window : e.min_exp ≡ u8_at b i / 16
+  pub greatest_window : e.max_exp ≡ u8_at b i % 16
+  pub aifsn : e.aifsn ≡ u8_at b (i + 1)
+  pub cot : e.cot_ms ≡ u16_at b (i + 2)
+
+-- The 32 bytes at place i are the WMM rule w: its eight entries.
+pub record WmmAt (b : List ℕ) (i : ℕ) (w : Wmm) : Type 0 where
+  pub in_file : i + 32 ≤ length b
+  pub vo_c : WmmEntryAt b i w.vo_c
+  pub vi_c : WmmEntryAt b (i + 4) w.vi_c
+  pub be_c : WmmEntryAt b (i + 8) w.be_c
+  pub bk_c : WmmEntryAt b (i + 12) w.bk_c
+  pub vo_ap : WmmEntryAt b (i + 16) w.vo_ap
+  pub vi_ap : WmmEntryAt b (i + 20) w.vi_ap
+  pub be_ap : WmmEntryAt b (i + 24) w.be_ap
+  pub bk_ap : WmmEntryAt b (i + 28) w.bk_ap
+
+-- The WMM rule that the rule at place i names: from a length of 20 on, the one at its pointer.
+abbrev pub NamesWmm : List ℕ → ℕ → Option Wmm → Type 0
+NamesWmm b i None = u8_at b i < 20
+NamesWmm b i (Some w) = (20 ≤ u8_at b i) × WmmAt b (target_at b (i + 18)) w
+
 -- The record at place i is the rule r. Its first byte is its length, of at least 16. From a length of 18 on it has a
--- check time. (From a length of 20 on it would name a WMM rule, which a rule of this program doesn't hold.)
+-- check time, and from a length of 20 on it names a WMM rule.
 pub record RuleAt (b : List ℕ) (i : ℕ) (r : Rule) : Type 0 where
   pub long : 16 ≤ u8_at b i
-  pub without_wmm : u8_at b i < 20
   pub in_file : i + u8_at b i ≤ length b
   pub flags : r.flags ≡ flags_in (u8_at b (i + 1))
   pub eirp : r.eirp_mbm ≡ u16_at b (i + 2)
@@ -57,6 +82,7 @@ pub record RuleAt (b : List ℕ) (i : ℕ) (r : Rule) : Type 0 where
   pub end : r.end_khz ≡ u32_at b (i + 8)
   pub width : r.max_bw_khz ≡ u32_at b (i + 12)
   pub check_time : r.cac_s ≡ (if nat_le 18 (u8_at b i) then u16_at b (i + 16) else 0)
+  pub wmm : NamesWmm b i r.wmm
   pub valid : IsValidRule r
 
 -- rules after one another in a collection, read through the pointers that stand from place i on
