@@ -123,7 +123,7 @@ power_at-again power rest p i =
 -- ---- the line
 
 abbrev pub rule_from : Band → ℕ → RuleFlags → Rule
-rule_from band power flags = record { start_khz = band.start * 1000; end_khz = band.end * 1000; max_bw_khz = band.width * 1000; flags = flags; eirp_mbm = power * 100; cac_s = 0 }
+rule_from band power flags = record { start_khz = band.start * 1000; end_khz = band.end * 1000; max_bw_khz = band.width * 1000; flags = flags; eirp_mbm = power * 100; cac_s = 0; wmm = None }
 
 -- the parts that are read of a line, and the rule that they make
 pub record ReadsRule (bs : List ℕ) (rule : Rule) : Type 0 where
@@ -140,9 +140,9 @@ spelled_rule-cells : (s : RuleSpelling) → spelled_rule s ≡ band_cells s.star
 spelled_rule-cells s = simp append_assoc
 
 -- a rule is made of its parts
-rule_of_parts : (rule : Rule) (start end width power : ℕ) (flags : RuleFlags) → rule.start_khz ≡ start * 1000 → rule.end_khz ≡ end * 1000 → rule.max_bw_khz ≡ width * 1000 → rule.eirp_mbm ≡ power * 100 → rule.flags ≡ flags → rule.cac_s ≡ 0 → rule ≡ rule_from (band_of start end width) power flags
-rule_of_parts rule start end width power flags a b c d e f =
-    λ i. record { start_khz = a i; end_khz = b i; max_bw_khz = c i; flags = e i; eirp_mbm = d i; cac_s = f i }
+rule_of_parts : (rule : Rule) (start end width power : ℕ) (flags : RuleFlags) → rule.start_khz ≡ start * 1000 → rule.end_khz ≡ end * 1000 → rule.max_bw_khz ≡ width * 1000 → rule.eirp_mbm ≡ power * 100 → rule.flags ≡ flags → rule.cac_s ≡ 0 → rule.wmm ≡ None → rule ≡ rule_from (band_of start end width) power flags
+rule_of_parts rule start end width power flags a b c d e f g =
+    λ i. record { start_khz = a i; end_khz = b i; max_bw_khz = c i; flags = e i; eirp_mbm = d i; cac_s = f i; wmm = g i }
 
 rule-again : (bs : List ℕ) (rule : Rule) → IsRuleLine bs rule → ReadsRule bs rule
 rule-again bs rule h =
@@ -160,7 +160,7 @@ rule-again bs rule h =
       names = s.flags;
       band_read = rw (h.1, spelled_rule-cells s) (band_at-again s.start s.end s.width behind means.start_number means.end_number means.width_number start_small end_small width_small);
       power_read = power_at-again s.power (flag_list s.flags) means.power_number means.power_limit;
-      made = rule_of_parts rule (value_of_digits s.start) (value_of_digits s.end) (value_of_digits s.width) (value_of_digits s.power) (flags_of s.flags) (omega arith) (omega arith) (omega arith) (omega arith) means.flags means.check_time;
+      made = rule_of_parts rule (value_of_digits s.start) (value_of_digits s.end) (value_of_digits s.width) (value_of_digits s.power) (flags_of s.flags) (omega arith) (omega arith) (omega arith) (omega arith) means.flags means.check_time means.wmm;
       valid = valid;
     }
 
@@ -217,6 +217,7 @@ rule-reads bs band behind power rest names flags e p named value valid =
         power_limit = omega arith;
         flags = value;
         check_time = refl;
+        wmm = refl;
         valid = valid;
       },
     )

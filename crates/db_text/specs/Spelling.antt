@@ -1,5 +1,5 @@
 -- How the lines of a text are spelled. A line here has no blanks and no comment.
-use Rattle.std.specs.Prelude.{◌≡◌, ℕ, ◌+◌, ◌-◌, ◌*◌, ◌<◌, ◌≤◌, List, [], ◌∷◌, ◌++◌, true, false, length, All, fold, codes}
+use Rattle.std.specs.Prelude.{◌≡◌, ℕ, ◌+◌, ◌-◌, ◌*◌, ◌<◌, ◌≤◌, List, [], ◌∷◌, ◌++◌, true, false, length, All, None, fold, codes}
 use Rattle.std.specs.List.{flat_map}
 use Rattle.freq_range.specs.Valid.{IsValidRule}
 use Rattle.freq_range.specs.declared.flags.RuleFlags.{RuleFlags}
@@ -86,6 +86,7 @@ pub record MeansRule (s : RuleSpelling) (rule : Rule) : Type 0 where
   pub power_limit : value_of_digits s.power ≤ 655
   pub flags : rule.flags ≡ flags_of s.flags
   pub check_time : rule.cac_s ≡ 0
+  pub wmm : rule.wmm ≡ None
   pub valid : IsValidRule rule
 
 -- a line of a rule

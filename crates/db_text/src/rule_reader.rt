@@ -192,6 +192,7 @@ pub fn rule_of(bytes: &[u8]) -> Option<Rule>
         flags,
         eirp_mbm: (power * 100) as u16,
         cac_s: 0,
+        wmm: None,
     };
     if rule.is_valid() { Some(rule) } else { None }
 }
