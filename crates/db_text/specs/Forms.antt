@@ -1,67 +1,123 @@
 -- What the lines of a text say together. A list of forms has that of the last line first: the forms behind one are
 -- those of the lines above it.
-use Rattle.std.specs.Prelude.{◌≡◌, ℕ, ◌<◌, ◌==◌, ◌&&◌, Bool, false, List, [], ◌∷◌, ◌++◌, length, Contains, Option, Some, None, IsSomeAnd, if◌then◌else◌}
+use Rattle.std.specs.Prelude.{◌≡◌, ℕ, ◌<◌, ◌==◌, ◌&&◌, nat_eq, Bool, true, false, List, [], ◌∷◌, length, Contains, Option, Some, None, option_map, if◌then◌else◌}
+use Rattle.std.specs.Cmp.Lexicographic.{pointwise}
+use Rattle.std.specs.List.{list_any}
 use Rattle.freq_range.specs.declared.rule.Rule.{Rule}
+use Rattle.freq_range.specs.declared.wmm.Wmm.{Wmm}
+use Rattle.freq_range.specs.declared.wmm.WmmEntry.{WmmEntry}
 use Rattle.rule_tables.specs.declared.code.Alpha2.{Alpha2}
-use Rattle.db_text.specs.declared.form.Header.{Header}
-use Rattle.db_text.specs.declared.form.Form.{Form}
-use Rattle.db_text.specs.declared.form.Form.TheVariants.{Empty, HeaderLine, RuleLine}
-use Rattle.db_text.specs.Lines.{bare, IsReadableLine}
-use Rattle.db_text.specs.Spelling.{IsHeader, IsRuleLine}
+use Rattle.rule_tables.specs.declared.code.Region.{Region}
+use Rattle.db_text.specs.declared.form.Item.{Item}
+use Rattle.db_text.specs.declared.form.Item.TheVariants.{VoC, ViC, BeC, BkC, VoAp, ViAp, BeAp, BkAp}
+use Rattle.db_text.specs.Spelling.{IsHeader, IsItemLine, IsRuleLine, IsWmmHeader}
+
+-- what a line says
+pub data Form : Type 0 where
+  Empty : Form
+  Country : List Alpha2 → Region → Form
+  WmmHeader : List ℕ → Form
+  ItemLine : Item → WmmEntry → Form
+  RuleLine : Rule → Option (List ℕ) → Form
 
 -- the line, its comment and blanks dropped, has the form
 abbrev pub IsForm : List ℕ → Form → Type 0
 IsForm line Empty = line ≡ []
-IsForm line (HeaderLine h) = IsHeader line h
-IsForm line (RuleLine rule) = IsRuleLine line rule
-
--- the line as it stands in the text has the form
-pub record IsLine (line : List ℕ) (form : Form) : Type 0 where
-  pub is_text : IsReadableLine line
-  pub has_form : IsForm (bare line) form
+IsForm line (Country cs region) = IsHeader line cs region
+IsForm line (WmmHeader name) = IsWmmHeader line name
+IsForm line (ItemLine item e) = IsItemLine line item e
+IsForm line (RuleLine rule name) = IsRuleLine line rule name
 
 -- the form of line k, counted from 0: the one with k lines above it
 abbrev pub form_at : List Form → ℕ → Option Form
 form_at [] k = None
 form_at (form ∷ above) k = if k == length above then Some form else form_at above k
 
--- the last header above
-abbrev pub last_header : List Form → Option Header
-last_header [] = None
-last_header (Empty ∷ above) = last_header above
-last_header (HeaderLine h ∷ above) = Some h
-last_header (RuleLine rule ∷ above) = last_header above
+-- what the last header opened
+pub data Block : Type 0 where
+  NoBlock : Block
+  OfCountries : List Alpha2 → Block
+  OfName : List ℕ → Block
+
+abbrev pub block_of : List Form → Block
+block_of [] = NoBlock
+block_of (Country cs region ∷ above) = OfCountries cs
+block_of (WmmHeader name ∷ above) = OfName name
+block_of (form ∷ above) = block_of above
+
+-- ---- WMM rules
+
+abbrev pub same_name : List ℕ → List ℕ → Bool
+same_name name other = pointwise nat_eq name other
+
+-- An item that isn't named yet. No line can spell it, since it waits for no slot.
+abbrev pub unnamed : WmmEntry
+unnamed = record { min_exp = 0; max_exp = 0; aifsn = 0; cot_ms = 0 }
+
+abbrev pub no_items : Wmm
+no_items = record { vo_c = unnamed; vi_c = unnamed; be_c = unnamed; bk_c = unnamed; vo_ap = unnamed; vi_ap = unnamed; be_ap = unnamed; bk_ap = unnamed }
+
+abbrev pub entry_of : Item → Wmm → WmmEntry
+entry_of VoC w = w.vo_c
+entry_of ViC w = w.vi_c
+entry_of BeC w = w.be_c
+entry_of BkC w = w.bk_c
+entry_of VoAp w = w.vo_ap
+entry_of ViAp w = w.vi_ap
+entry_of BeAp w = w.be_ap
+entry_of BkAp w = w.bk_ap
+
+abbrev pub with_entry : Item → WmmEntry → Wmm → Wmm
+with_entry VoC e w = record w { vo_c = e }
+with_entry ViC e w = record w { vi_c = e }
+with_entry BeC e w = record w { be_c = e }
+with_entry BkC e w = record w { bk_c = e }
+with_entry VoAp e w = record w { vo_ap = e }
+with_entry ViAp e w = record w { vi_ap = e }
+with_entry BeAp e w = record w { be_ap = e }
+with_entry BkAp e w = record w { bk_ap = e }
+
+-- the block is the WMM rule's of this name
+abbrev pub is_of_name : List ℕ → Block → Bool
+is_of_name name NoBlock = false
+is_of_name name (OfCountries cs) = false
+is_of_name name (OfName other) = same_name other name
+
+-- the WMM rule of a name: the items below its header, or nothing where no line is its header
+abbrev pub wmm_of : List ℕ → List Form → Option Wmm
+wmm_of name [] = None
+wmm_of name (WmmHeader other ∷ above) = if same_name other name then Some no_items else wmm_of name above
+wmm_of name (ItemLine item e ∷ above) =
+    if is_of_name name (block_of above) then option_map (with_entry item e) (wmm_of name above) else wmm_of name above
+wmm_of name (form ∷ above) = wmm_of name above
+
+-- ---- rules of countries
 
 abbrev pub same_code : Alpha2 → Alpha2 → Bool
 same_code c d = c.a == d.a && c.b == d.b
 
--- whether the last header, if there is one, names the code
-abbrev pub last_names : Alpha2 → Option Header → Bool
-last_names code None = false
-last_names code (Some h) = same_code h.alpha2 code
+-- the block is this country's, among others perhaps
+abbrev pub is_of_code : Alpha2 → Block → Bool
+is_of_code code NoBlock = false
+is_of_code code (OfCountries cs) = list_any (same_code code) cs
+is_of_code code (OfName name) = false
 
--- the rules of a code: those of the rule lines whose last header above names it, in order of lines
+-- the WMM rule that is named, as the lines above have it
+abbrev pub named_wmm : List Form → Option (List ℕ) → Option Wmm
+named_wmm above None = None
+named_wmm above (Some name) = wmm_of name above
+
+-- the rule with the WMM rule that its line names
+abbrev pub with_named : List Form → Rule → Option (List ℕ) → Rule
+with_named above rule name = record rule { wmm = named_wmm above name }
+
+-- the rules of a code: those of the rule lines whose last header above names it, the last one first
 abbrev pub rules_of : Alpha2 → List Form → List Rule
 rules_of code [] = []
-rules_of code (Empty ∷ above) = rules_of code above
-rules_of code (HeaderLine h ∷ above) = rules_of code above
-rules_of code (RuleLine rule ∷ above) = rules_of code above ++ (if last_names code (last_header above) then rule ∷ [] else [])
+rules_of code (RuleLine rule name ∷ above) =
+    if is_of_code code (block_of above) then with_named above rule name ∷ rules_of code above else rules_of code above
+rules_of code (form ∷ above) = rules_of code above
 
--- some header names the code
-abbrev pub Names : List Form → Alpha2 → Type 0
-Names forms code = (h : Header) × Contains forms (HeaderLine h) × (h.alpha2 ≡ code)
-
--- A line of the form may stand below these: a header whose code isn't named above; a rule with a header above, which is
--- new among the rules of its country and at most the 128th of them.
-abbrev pub MayFollow : List Form → Form → Type 0
-MayFollow above Empty = Unit {0}
-MayFollow above (HeaderLine h) = Names above h.alpha2 → ⊥
-MayFollow above (RuleLine rule) =
-    IsSomeAnd (last_header above) (λ h. (Contains (rules_of h.alpha2 above) rule → ⊥) × (length (rules_of h.alpha2 above) < 128))
-
--- the lines, the last one first, have these forms, and each may follow those above it
-abbrev pub AreAccepted : List (List ℕ) → List Form → Type 0
-AreAccepted [] [] = Unit {0}
-AreAccepted [] (form ∷ above) = ⊥
-AreAccepted (line ∷ lines) [] = ⊥
-AreAccepted (line ∷ lines) (form ∷ above) = AreAccepted lines above × IsLine line form × MayFollow above form
+-- some header names the code, with this region
+abbrev pub Names : List Form → Alpha2 → Region → Type 0
+Names forms code region = (cs : List Alpha2) × Contains forms (Country cs region) × Contains cs code

@@ -1,6 +1,5 @@
-pub mod Blocks
+pub mod Faults
 pub mod Forms
 pub mod Lines
-pub mod Reading
 pub mod Spelling
 pub mod TextOf

@@ -1,63 +1,77 @@
 -- Which database a text stands for, and which of its lines is at fault where it stands for none.
-use Rattle.std.specs.Prelude.{◌≡◌, ℕ, ◌+◌, ◌<◌, ◌⊎◌, List, [], length, take, reverse, All, Contains, Some}
+use Rattle.std.specs.Prelude.{◌≡◌, ℕ, ◌+◌, ◌<◌, ◌⊎◌, List, [], length, take, reverse, All, Contains, Option, Some, None, slice_index_or}
 use Rattle.freq_range.specs.First.{IsFirst}
+use Rattle.freq_range.specs.Valid.{IsValidWmm}
+use Rattle.freq_range.specs.declared.rule.Rule.{Rule}
+use Rattle.freq_range.specs.declared.wmm.Wmm.{Wmm}
 use Rattle.rule_tables.specs.Databases.{IsDb, HasCode}
+use Rattle.rule_tables.specs.FileFormat.{DropsRepeats}
+use Rattle.rule_tables.specs.declared.code.Alpha2.{Alpha2}
+use Rattle.rule_tables.specs.declared.code.Region.{Region}
 use Rattle.rule_tables.specs.declared.domain.Domain.{Domain}
 use Rattle.db_text.specs.declared.fault.ParseFault.{ParseFault}
 use Rattle.db_text.specs.declared.fault.ParseFault.TheVariants.{Text, OutOfMemory}
+use Rattle.db_text.specs.declared.fault.RuleTextFault.{RuleTextFault}
+use Rattle.db_text.specs.declared.fault.RuleTextFault.TheVariants.{Kind, OutOfMemory as NoMemory}
 use Rattle.db_text.specs.declared.fault.TextFault.{TextFault}
 use Rattle.db_text.specs.declared.fault.TextKind.{TextKind}
-use Rattle.db_text.specs.declared.fault.TextKind.TheVariants.{NotBuilt}
-use Rattle.db_text.specs.declared.form.Header.{Header}
-use Rattle.db_text.specs.declared.form.Form.{Form}
-use Rattle.db_text.specs.declared.form.Form.TheVariants.{HeaderLine}
-use Rattle.db_text.specs.Forms.{AreAccepted, form_at, rules_of}
+use Rattle.db_text.specs.declared.fault.TextKind.TheVariants.{WmmShort, NoRules}
+use Rattle.db_text.specs.Faults.{AreAccepted, IsLineFault, IsRuleTextFault}
+use Rattle.db_text.specs.Forms.{Form, Names, form_at, rules_of, wmm_of}
+use Rattle.db_text.specs.Forms.Form.{Country, WmmHeader}
 use Rattle.db_text.specs.Lines.{lines_of}
 
--- the domain has the code and the region of a header, and the rules of that code
+-- the domain has the code and the region of headers, and the rules of that code, each once
 pub record IsDomainOf (forms : List Form) (d : Domain) : Type 0 where
-  pub header : Contains forms (HeaderLine (record { alpha2 = d.alpha2; region = d.region }))
-  pub rules : d.rules ≡ rules_of d.alpha2 forms
+  pub named : Names forms d.alpha2 d.region
+  pub rules : DropsRepeats (rules_of d.alpha2 forms) d.rules
 
--- lines of these forms stand for a database: it has a domain for the code of each header, and no others
+-- Line k, counted from 0, is a header that the lines leave short: a WMM rule's without all eight items, or one that names
+-- a country without rules.
+abbrev pub IsShortAt : List Form → ℕ → TextKind → Type 0
+IsShortAt forms k WmmShort =
+    (name : List ℕ) × (form_at forms k ≡ Some (WmmHeader name)) × (wmm : Wmm) × (wmm_of name forms ≡ Some wmm) × (IsValidWmm wmm → ⊥)
+IsShortAt forms k NoRules =
+    (cs : List Alpha2) × (region : Region) × (form_at forms k ≡ Some (Country cs region))
+    × (code : Alpha2) × Contains cs code × (rules_of code forms ≡ [])
+IsShortAt forms k kind = ⊥
+
+-- lines of these forms stand for a database: it has a domain for each code that a header names, and no others; and no
+-- header is left short
 pub record StandsFor (forms : List Form) (ds : List Domain) : Type 0 where
   pub db : IsDb ds
   pub each : All (IsDomainOf forms) ds
-  pub all : (h : Header) → Contains forms (HeaderLine h) → HasCode ds h.alpha2
+  pub all : (code : Alpha2) (region : Region) → Names forms code region → HasCode ds code
+  pub none_short : (k : ℕ) (kind : TextKind) → IsShortAt forms k kind → ⊥
 
 -- The text stands for the database.
 abbrev pub TextOf : List ℕ → List Domain → Type 0
 TextOf text ds = (forms : List Form) × AreAccepted (reverse (lines_of text)) forms × StandsFor forms ds
 
--- the first n lines are accepted
-abbrev pub AcceptsFirst : List (List ℕ) → ℕ → Type 0
-AcceptsFirst lines n = (forms : List Form) × AreAccepted (reverse (take n lines)) forms
+-- line k, counted from 0, is the first at which something is wrong, and this is wrong with it
+pub record IsFirstFault (text : List ℕ) (k : ℕ) (kind : TextKind) : Type 0 where
+  pub in_range : k < length (lines_of text)
+  pub above : List Form
+  pub accepted : AreAccepted (reverse (take k (lines_of text))) above
+  pub fault : IsLineFault above (slice_index_or (lines_of text) k []) kind
 
--- the lines up to line k, counted from 0, are not accepted: line k or one before it is at fault
-abbrev pub IsRefusedAt : List (List ℕ) → ℕ → Type 0
-IsRefusedAt lines k = (k < length lines) × (AcceptsFirst lines (k + 1) → ⊥)
-
--- line k, counted from 0, is a header whose code has no rules
-pub record IsHeaderWithoutRulesAt (forms : List Form) (k : ℕ) : Type 0 where
-  pub header : Header
-  pub here : form_at forms k ≡ Some (HeaderLine header)
-  pub without_rules : rules_of header.alpha2 forms ≡ []
-
--- line k, counted from 0, is the first at which the text isn't accepted; where there is none, the first header without rules
-abbrev pub IsFaultyLine : List ℕ → ℕ → Type 0
-IsFaultyLine text k =
-    IsFirst (IsRefusedAt (lines_of text)) k
-    ⊎ ((forms : List Form) × AreAccepted (reverse (lines_of text)) forms × IsFirst (IsHeaderWithoutRulesAt forms) k)
-
--- what is wrong with line k, counted from 0
-abbrev pub IsKind : List ℕ → ℕ → TextKind → Type 0
-IsKind text k NotBuilt = IsFaultyLine text k
+-- nothing is wrong with any line, and line k is the first header that is left short
+pub record IsFirstShort (text : List ℕ) (k : ℕ) (kind : TextKind) : Type 0 where
+  pub forms : List Form
+  pub accepted : AreAccepted (reverse (lines_of text)) forms
+  pub short : IsShortAt forms k kind
+  pub first : (j : ℕ) (other : TextKind) → j < k → IsShortAt forms j other → ⊥
 
 -- The fault of the text: the number of its faulty line, counted from 1, and what is wrong with it.
 abbrev pub IsTextFault : List ℕ → TextFault → Type 0
-IsTextFault text fault = (k : ℕ) × (fault.line ≡ k + 1) × IsKind text k fault.kind
+IsTextFault text fault = (k : ℕ) × (fault.line ≡ k + 1) × (IsFirstFault text k fault.kind ⊎ IsFirstShort text k fault.kind)
 
 -- why a text gives no database
 abbrev pub IsParseFault : List ℕ → ParseFault → Type 0
 IsParseFault text (Text fault) = IsTextFault text fault
 IsParseFault text OutOfMemory = Unit {0}
+
+-- why a text gives no rule
+abbrev pub IsParseRuleFault : List ℕ → RuleTextFault → Type 0
+IsParseRuleFault text (Kind kind) = IsRuleTextFault text kind
+IsParseRuleFault text NoMemory = Unit {0}

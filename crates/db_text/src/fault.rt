@@ -2,12 +2,60 @@
 
 use thiserror::Error;
 
-/// What is wrong with a line.
+/// What is wrong with a line, in the order in which a line is judged.
 #[derive(Clone, Copy, Debug, PartialEq, Eq, Error)]
 pub enum TextKind {
-    /// The line isn't among those that are read so far, or is a header without rules.
-    #[error("NotBuilt")]
-    NotBuilt,
+    /// The line has more than 4,096 bytes.
+    #[error("LineTooLong")]
+    LineTooLong,
+    /// The line isn't UTF-8.
+    #[error("NotUtf8")]
+    NotUtf8,
+    /// The line begins as none that there is.
+    #[error("BadLine")]
+    BadLine,
+    /// A rule where the last header isn't a country's, or an item where it isn't a WMM rule's.
+    #[error("NoBlock")]
+    NoBlock,
+    /// What stands up to the colon of a `country` line isn't the word and codes.
+    #[error("BadCountry")]
+    BadCountry,
+    /// What follows the colon of a `country` line is neither a region nor nothing.
+    #[error("BadRegion")]
+    BadRegion,
+    /// An earlier header of one of the countries has another region.
+    #[error("RegionDiffers")]
+    RegionDiffers,
+    /// No valid band stands first in the line of a rule.
+    #[error("BadBand")]
+    BadBand,
+    /// No comma and power follow the band.
+    #[error("BadPower")]
+    BadPower,
+    /// What follows the power isn't a list of flags.
+    #[error("BadFlag")]
+    BadFlag,
+    /// A flag is there that a file of version 20 has no bit for.
+    #[error("FlagNotInVersion")]
+    FlagNotInVersion,
+    /// The WMM rule that is named has no header above.
+    #[error("NoWmm")]
+    NoWmm,
+    /// The header or an item of a WMM rule isn't of its form, or the item was there before.
+    #[error("BadWmm")]
+    BadWmm,
+    /// The name of the WMM rule has a header above.
+    #[error("WmmTwice")]
+    WmmTwice,
+    /// Some country would have 129 rules.
+    #[error("TooManyRules")]
+    TooManyRules,
+    /// The header of a WMM rule without all eight items.
+    #[error("WmmShort")]
+    WmmShort,
+    /// The first header that names a country without rules.
+    #[error("NoRules")]
+    NoRules,
 }
 
 /// Which line of a text is at fault, counted from 1, and what is wrong with it.
@@ -24,6 +72,17 @@ pub enum ParseFault {
     /// The text isn't accepted.
     #[error("{0}")]
     Text(TextFault),
+    /// No memory was found.
+    #[error("no memory")]
+    OutOfMemory,
+}
+
+/// Why a text isn't the line of a rule.
+#[derive(Clone, Copy, Debug, PartialEq, Eq, Error)]
+pub enum RuleTextFault {
+    /// The text isn't accepted.
+    #[error("{0}")]
+    Kind(TextKind),
     /// No memory was found.
     #[error("no memory")]
     OutOfMemory,

@@ -1,7 +1,4 @@
-//! The forms that a line may have.
-
-use freq_range::Rule;
-use rule_tables::{Alpha2, Region};
+//! The words that lines are made of.
 
 /// A flag, by the name that texts have for it.
 #[derive(Clone, Copy, Debug, PartialEq, Eq)]
@@ -11,22 +8,21 @@ pub enum Flag {
     Dfs,
     NoIr,
     AutoBw,
+    NoCck,
+    NoIndoor,
+    PtpOnly,
+    PtmpOnly,
 }
 
-/// What the header of a country says.
+/// An item of a WMM rule, by the name that texts have for it.
 #[derive(Clone, Copy, Debug, PartialEq, Eq)]
-pub struct Header {
-    pub alpha2: Alpha2,
-    pub region: Region,
-}
-
-/// What a line says.
-#[derive(Clone, Copy, Debug, PartialEq, Eq)]
-pub enum Form {
-    /// Nothing but blanks and a comment.
-    Empty,
-    /// `country CODE:` and a region or none.
-    HeaderLine(Header),
-    /// `(START - END @ WIDTH), (POWER)` and flags.
-    RuleLine(Rule),
+pub enum Item {
+    VoC,
+    ViC,
+    BeC,
+    BkC,
+    VoAp,
+    ViAp,
+    BeAp,
+    BkAp,
 }

@@ -1,0 +1,152 @@
+-- What is wrong with a line: the first kind of a list that applies to it, below the lines above it.
+use Rattle.std.specs.Prelude.{◌≡◌, ◌≢◌, ℕ, ◌<◌, ◌≤◌, ◌⊎◌, List, [], ◌∷◌, length, reverse, All, Contains, Option, Some, None, IsUtf8}
+use Rattle.freq_range.specs.Valid.{IsValidEntry}
+use Rattle.freq_range.specs.declared.rule.Rule.{Rule}
+use Rattle.freq_range.specs.declared.wmm.WmmEntry.{WmmEntry}
+use Rattle.rule_tables.specs.FileFormat.{DropsRepeats}
+use Rattle.rule_tables.specs.declared.code.Alpha2.{Alpha2}
+use Rattle.rule_tables.specs.declared.code.Region.{Region}
+use Rattle.db_text.specs.declared.fault.TextKind.{TextKind}
+use Rattle.db_text.specs.declared.fault.TextKind.TheVariants.{LineTooLong, NotUtf8, BadLine, NoBlock, BadCountry, BadRegion, RegionDiffers, BadBand, BadPower, BadFlag, FlagNotInVersion, NoWmm, BadWmm, WmmTwice, TooManyRules, WmmShort, NoRules}
+use Rattle.db_text.specs.declared.form.Item.{Item}
+use Rattle.db_text.specs.Forms.{Block, Form, IsForm, Names, block_of, entry_of, rules_of, wmm_of}
+use Rattle.db_text.specs.Forms.Block.{OfCountries, OfName}
+use Rattle.db_text.specs.Forms.Form.{Empty, RuleLine}
+use Rattle.db_text.specs.Lines.{bare}
+use Rattle.db_text.specs.Spelling.{AreCodes, AreWords, BeginsWithBand, BeginsWithPower, HasCodes, IsHeader, IsItemLine, IsKeptWord, IsRuleLine, IsSpelledRule, IsWmmHeader, Opening, Opens, RuleText, Word, names_in}
+use Rattle.db_text.specs.Spelling.Opening.{OfCountry, OfWmm, OfRule, OfItem}
+
+-- ---- the line of a rule, by itself
+
+-- no valid band stands first
+abbrev pub LacksBand : List ℕ → Type 0
+LacksBand line = (rest : List ℕ) → BeginsWithBand line rest → ⊥
+
+-- no comma and power follow a band
+abbrev pub LacksPower : List ℕ → Type 0
+LacksPower line = (rest behind : List ℕ) → BeginsWithBand line rest → BeginsWithPower rest behind → ⊥
+
+-- what follows isn't a list of words
+abbrev pub LacksWords : List ℕ → Type 0
+LacksWords line = (t : RuleText) (rule : Rule) → IsSpelledRule line t rule → ⊥
+
+-- a flag is there that a file of version 20 has no bit for
+abbrev pub HasUnkeptFlag : List ℕ → Type 0
+HasUnkeptFlag line = (t : RuleText) × (rule : Rule) × IsSpelledRule line t rule × (All IsKeptWord t.words → ⊥)
+
+-- ---- the context of a line
+
+-- the last header above is one of countries
+abbrev pub IsInCountries : List Form → Type 0
+IsInCountries above = (cs : List Alpha2) × (block_of above ≡ OfCountries cs)
+
+-- the last header above is a WMM rule's
+abbrev pub IsInWmm : List Form → Type 0
+IsInWmm above = (name : List ℕ) × (block_of above ≡ OfName name)
+
+-- an earlier header has one of the codes, with another region
+abbrev pub IsContradicted : List Form → List Alpha2 → Region → Type 0
+IsContradicted above cs region = (code : Alpha2) × (other : Region) × Contains cs code × Names above code other × (other ≢ region)
+
+-- the line names a WMM rule that no line above is the header of
+abbrev pub NamesNoWmm : List Form → List ℕ → Type 0
+NamesNoWmm above line =
+    (t : RuleText) × (rule : Rule) × IsSpelledRule line t rule × (name : List ℕ) × Contains (names_in t.words) name × (wmm_of name above ≡ None)
+
+-- the open WMM rule has the item
+abbrev pub HasItem : List Form → Item → Type 0
+HasItem above item = (name : List ℕ) × (block_of above ≡ OfName name) × (wmm : _) × (wmm_of name above ≡ Some wmm) × IsValidEntry (entry_of item wmm)
+
+-- with these lines the code has more than 128 rules, each counted once
+abbrev pub HasTooMany : List Form → Alpha2 → Type 0
+HasTooMany forms code = (kept : List Rule) × DropsRepeats (rules_of code forms) kept × (128 < length kept)
+
+-- some country of the last header has too many rules with this line
+abbrev pub MakesTooMany : List Form → List ℕ → Type 0
+MakesTooMany above line =
+    (rule : Rule) × (name : Option (List ℕ)) × IsRuleLine line rule name
+    × (cs : List Alpha2) × (block_of above ≡ OfCountries cs) × (code : Alpha2) × Contains cs code × HasTooMany (RuleLine rule name ∷ above) code
+
+-- ---- the kinds
+
+-- the kind applies to the line, whose comment and blanks are dropped from the third kind on
+abbrev pub Applies : List Form → List ℕ → TextKind → Type 0
+Applies above line LineTooLong = 4096 < length line
+Applies above line NotUtf8 = IsUtf8 line → ⊥
+Applies above line BadLine = (bare line ≢ []) × ((opening : Opening) → Opens (bare line) opening → ⊥)
+Applies above line NoBlock =
+    (Opens (bare line) OfRule × (IsInCountries above → ⊥)) ⊎ ((item : Item) × Opens (bare line) (OfItem item) × (IsInWmm above → ⊥))
+Applies above line BadCountry = Opens (bare line) OfCountry × ((cs : List Alpha2) (rest : List ℕ) → HasCodes (bare line) cs rest → ⊥)
+Applies above line BadRegion = Opens (bare line) OfCountry × ((cs : List Alpha2) (region : Region) → IsHeader (bare line) cs region → ⊥)
+Applies above line RegionDiffers = (cs : List Alpha2) × (region : Region) × IsHeader (bare line) cs region × IsContradicted above cs region
+Applies above line BadBand = Opens (bare line) OfRule × LacksBand (bare line)
+Applies above line BadPower = Opens (bare line) OfRule × LacksPower (bare line)
+Applies above line BadFlag = Opens (bare line) OfRule × LacksWords (bare line)
+Applies above line FlagNotInVersion = HasUnkeptFlag (bare line)
+Applies above line NoWmm = NamesNoWmm above (bare line)
+Applies above line BadWmm =
+    (Opens (bare line) OfWmm × ((name : List ℕ) → IsWmmHeader (bare line) name → ⊥))
+    ⊎ ((item : Item) × Opens (bare line) (OfItem item) × (((e : WmmEntry) → IsItemLine (bare line) item e → ⊥) ⊎ HasItem above item))
+Applies above line WmmTwice = (name : List ℕ) × IsWmmHeader (bare line) name × (wmm_of name above ≢ None)
+Applies above line TooManyRules = MakesTooMany above (bare line)
+Applies above line WmmShort = ⊥
+Applies above line NoRules = ⊥
+
+-- the place of a kind in the list
+abbrev pub place_of_kind : TextKind → ℕ
+place_of_kind LineTooLong = 1
+place_of_kind NotUtf8 = 2
+place_of_kind BadLine = 3
+place_of_kind NoBlock = 4
+place_of_kind BadCountry = 5
+place_of_kind BadRegion = 6
+place_of_kind RegionDiffers = 7
+place_of_kind BadBand = 8
+place_of_kind BadPower = 9
+place_of_kind BadFlag = 10
+place_of_kind FlagNotInVersion = 11
+place_of_kind NoWmm = 12
+place_of_kind BadWmm = 13
+place_of_kind WmmTwice = 14
+place_of_kind TooManyRules = 15
+place_of_kind WmmShort = 16
+place_of_kind NoRules = 17
+
+-- what is wrong with the line: the first kind that applies
+pub record IsLineFault (above : List Form) (line : List ℕ) (kind : TextKind) : Type 0 where
+  pub applies : Applies above line kind
+  pub first : (other : TextKind) → place_of_kind other < place_of_kind kind → Applies above line other → ⊥
+
+-- the line has the form, and nothing is wrong with it
+pub record IsGoodLine (above : List Form) (line : List ℕ) (form : Form) : Type 0 where
+  pub is : IsForm (bare line) form
+  pub good : (kind : TextKind) → Applies above line kind → ⊥
+
+-- the lines, the last one first, have these forms, and nothing is wrong with any
+abbrev pub AreAccepted : List (List ℕ) → List Form → Type 0
+AreAccepted [] [] = Unit {0}
+AreAccepted [] (form ∷ above) = ⊥
+AreAccepted (line ∷ lines) [] = ⊥
+AreAccepted (line ∷ lines) (form ∷ above) = AreAccepted lines above × IsGoodLine above line form
+
+-- ---- one line for itself
+
+-- the kind applies to a text that ought to be the line of one rule, without `wmmrule=`
+abbrev pub AppliesToRule : List ℕ → TextKind → Type 0
+AppliesToRule line LineTooLong = 4096 < length line
+AppliesToRule line NotUtf8 = IsUtf8 line → ⊥
+AppliesToRule line BadLine = Opens (bare line) OfRule → ⊥
+AppliesToRule line BadBand = LacksBand (bare line)
+AppliesToRule line BadPower = LacksPower (bare line)
+AppliesToRule line BadFlag = (t : RuleText) (rule : Rule) → IsSpelledRule (bare line) t rule → names_in t.words ≢ []
+AppliesToRule line FlagNotInVersion = HasUnkeptFlag (bare line)
+AppliesToRule line kind = ⊥
+
+pub record IsRuleTextFault (line : List ℕ) (kind : TextKind) : Type 0 where
+  pub applies : AppliesToRule line kind
+  pub first : (other : TextKind) → place_of_kind other < place_of_kind kind → AppliesToRule line other → ⊥
+
+-- the text is the line of the rule, without `wmmrule=`
+pub record IsTextOfRule (line : List ℕ) (rule : Rule) : Type 0 where
+  pub is : IsRuleLine (bare line) rule None
+  pub good : (kind : TextKind) → AppliesToRule line kind → ⊥
