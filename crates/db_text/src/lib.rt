@@ -1,7 +1,9 @@
 //! Reads rule texts (`db.txt` of wireless-regdb).
 #![tactic(auto)]
 
+mod countries;
 mod fault;
 mod form;
+mod wmm_rules;
 
 pub use fault::{ParseFault, RuleTextFault, TextFault, TextKind};

@@ -43,3 +43,12 @@ pub enum Region {
     Etsi,
     Jp,
 }
+
+impl Region {
+    /// Whether both are the same region.
+    pub fn is_same(self, other: Region) -> bool
+        ensures { IsTrue result ↔ (self ≡ other) }
+    {
+        self == other
+    }
+}
