@@ -1,6 +1,6 @@
 -- What the parser keeps of the lines so far. Only private functions' clauses cite it; the laws of proofs/ tie it to what
 -- the lines say.
-use Rattle.std.specs.Prelude.{◌≡◌, ◌≢◌, ℕ, ◌+◌, ◌<◌, ◌≤◌, ◌⊎◌, List, [], ◌∷◌, ◌++◌, length, Contains, Option, Some, None, IfSome}
+use Rattle.std.specs.Prelude.{◌≡◌, ◌≢◌, ℕ, ◌+◌, ◌<◌, ◌≤◌, ◌⊎◌, List, [], ◌∷◌, ◌++◌, length, Contains, Option, Some, None, IfSome, if◌then◌else◌}
 use Rattle.std.specs.BTreeMap.{BTreeMap, get}
 use Rattle.std.specs.Ordering.{nat_cmp}
 use Rattle.std.specs.BTreeMap.{get_by}
@@ -11,12 +11,23 @@ use Rattle.freq_range.specs.Valid.{IsValidEntry}
 use Rattle.freq_range.specs.declared.wmm.WmmEntry.{WmmEntry}
 use Rattle.db_text.specs.declared.form.Item.{Item}
 use Rattle.db_text.specs.declared.wmm_rules.WmmBlock.{WmmBlock}
-use Rattle.db_text.specs.Forms.{entry_of, no_items, with_entry}
+use Rattle.std.specs.List.{list_any}
+use Rattle.freq_range.specs.First.{IsFirst}
+use Rattle.rule_tables.specs.Code.{IsCode}
+use Rattle.rule_tables.specs.FileFormat.{DropsRepeats}
+use Rattle.db_text.specs.Faults.{HasTooMany, IsContradicted, IsGoodLine, IsLineFault}
+use Rattle.db_text.specs.Forms.{Form, Names, block_of, entry_of, form_at, no_items, rules_of, same_code, with_entry, wmm_of}
+use Rattle.db_text.specs.Forms.Block.{NoBlock, OfCountries, OfName}
+use Rattle.db_text.specs.Forms.Form.{Country, WmmHeader}
+use Rattle.db_text.specs.Spelling.{AreCodes}
 use Rattle.freq_range.specs.declared.rule.Rule.{Rule}
 use Rattle.rule_tables.specs.Code.{key}
 use Rattle.rule_tables.specs.declared.code.Alpha2.{Alpha2}
 use Rattle.rule_tables.specs.declared.code.Region.{Region}
-use Rattle.db_text.specs.declared.countries.Country.{Country}
+use Rattle.db_text.specs.declared.countries.Country.{Country as Kept}
+use Rattle.db_text.specs.declared.parser.Open.{Open}
+use Rattle.db_text.specs.declared.parser.Open.TheVariants.{Nothing, Countries as OpenCountries, Wmm as OpenWmm}
+use Rattle.db_text.specs.declared.parser.Parser.{Parser}
 use Rattle.db_text.specs.declared.fault.LineStop.{LineStop}
 use Rattle.db_text.specs.declared.fault.LineStop.TheVariants.{Kind, OutOfMemory}
 use Rattle.db_text.specs.declared.fault.TextKind.{TextKind}
@@ -26,9 +37,9 @@ use Rattle.db_text.specs.declared.fault.TextKind.TheVariants.{BadWmm, RegionDiff
 
 -- the countries by the keys of their codes
 abbrev pub Countries : Type 0
-Countries = BTreeMap ℕ Country
+Countries = BTreeMap ℕ Kept
 
-abbrev pub country_of : Countries → Alpha2 → Option Country
+abbrev pub country_of : Countries → Alpha2 → Option Kept
 country_of countries code = get nat_cmp countries (key code)
 
 -- nothing but the country of this code changes
@@ -36,21 +47,21 @@ abbrev pub KeepsOthers : Alpha2 → Countries → Countries → Type 0
 KeepsOthers code old new = (q : ℕ) → q ≢ key code → get nat_cmp new q ≡ get nat_cmp old q
 
 -- the rule is one more, or it was there
-abbrev pub AddsRule : Rule → Country → Country → Type 0
+abbrev pub AddsRule : Rule → Kept → Country → Type 0
 AddsRule rule old new =
     (Contains old.rules rule × (new ≡ old))
     ⊎ ((Contains old.rules rule → ⊥) × (length old.rules < 128) × (new ≡ record old { rules = old.rules ++ rule ∷ [] }))
 
-abbrev pub IsAddStop : Rule → Country → LineStop → Type 0
+abbrev pub IsAddStop : Rule → Kept → LineStop → Type 0
 IsAddStop rule old (Kind TooManyRules) = (Contains old.rules rule → ⊥) × (128 ≤ length old.rules)
 IsAddStop rule old (Kind kind) = ⊥
 IsAddStop rule old OutOfMemory = Unit {0}
 
-abbrev pub new_country : Alpha2 → Region → ℕ → Country
+abbrev pub new_country : Alpha2 → Region → ℕ → Kept
 new_country code region line = record { alpha2 = code; region = region; line = line; rules = [] }
 
 -- the country is there, as before where it was there before
-abbrev pub IsOpened : Alpha2 → Region → ℕ → Option Country → Option Country → Type 0
+abbrev pub IsOpened : Alpha2 → Region → ℕ → Option Kept → Option Kept → Type 0
 IsOpened code region line None new = new ≡ Some (new_country code region line)
 IsOpened code region line (Some country) new = (new ≡ Some country) × (country.region ≡ region)
 
@@ -59,21 +70,21 @@ pub record OpensCountry (code : Alpha2) (region : Region) (line : ℕ) (old new 
   pub here : IsOpened code region line (country_of old code) (country_of new code)
 
 abbrev pub IsOpenStop : Alpha2 → Region → Countries → LineStop → Type 0
-IsOpenStop code region old (Kind RegionDiffers) = (country : Country) × (country_of old code ≡ Some country) × (country.region ≢ region)
+IsOpenStop code region old (Kind RegionDiffers) = (country : Kept) × (country_of old code ≡ Some country) × (country.region ≢ region)
 IsOpenStop code region old (Kind kind) = ⊥
 IsOpenStop code region old OutOfMemory = Unit {0}
 
 -- the rule is one more of the country, where it is there
-abbrev pub IsAdded : Rule → Option Country → Option Country → Type 0
+abbrev pub IsAdded : Rule → Option Kept → Option Kept → Type 0
 IsAdded rule None new = new ≡ None
-IsAdded rule (Some country) new = (changed : Country) × (new ≡ Some changed) × AddsRule rule country changed
+IsAdded rule (Some country) new = (changed : Kept) × (new ≡ Some changed) × AddsRule rule country changed
 
 pub record AddsTo (code : Alpha2) (rule : Rule) (old new : Countries) : Type 0 where
   pub others : KeepsOthers code old new
   pub here : IsAdded rule (country_of old code) (country_of new code)
 
 abbrev pub IsAddToStop : Alpha2 → Rule → Countries → LineStop → Type 0
-IsAddToStop code rule old stop = (country : Country) × (country_of old code ≡ Some country) × IsAddStop rule country stop
+IsAddToStop code rule old stop = (country : Kept) × (country_of old code ≡ Some country) × IsAddStop rule country stop
 
 -- ---- WMM rules
 
@@ -118,3 +129,84 @@ pub record AddsItemTo (name : List ℕ) (item : Item) (entry : WmmEntry) (old ne
 
 abbrev pub IsAddItemToStop : List ℕ → Item → Blocks → LineStop → Type 0
 IsAddItemToStop name item old stop = (block : WmmBlock) × (block_named old name ≡ Some block) × IsAddItemStop item block stop
+
+-- ---- what is kept of the lines
+
+-- line k, counted from 0, is a header that names the code
+abbrev pub IsHeaderAt : List Form → Alpha2 → ℕ → Type 0
+IsHeaderAt forms code k = (cs : List Alpha2) × (region : Region) × (form_at forms k ≡ Some (Country cs region)) × Contains cs code
+
+-- what is kept of a country that some header names
+pub record IsKeptCountry (forms : List Form) (code : Alpha2) (country : Kept) : Type 0 where
+  pub code_is : country.alpha2 ≡ code
+  pub named : Names forms code country.region
+  pub one_region : (region : Region) → Names forms code region → region ≡ country.region
+  pub first_header : (k : ℕ) × (country.line ≡ k + 1) × IsFirst (IsHeaderAt forms code) k
+  pub rules_are : DropsRepeats (rules_of code forms) country.rules
+  pub few : length country.rules ≤ 128
+
+abbrev pub IsCountryOf : List Form → Alpha2 → Option Kept → Type 0
+IsCountryOf forms code None = (region : Region) → Names forms code region → ⊥
+IsCountryOf forms code (Some country) = IsKeptCountry forms code country
+
+-- the countries of the lines, and no others
+pub record AreCountries (forms : List Form) (countries : Countries) : Type 0 where
+  pub each : (code : Alpha2) → IsCode code → IsCountryOf forms code (country_of countries code)
+  pub keys : (q : ℕ) → IfSome (get nat_cmp countries q) (λ country. IsCode country.alpha2 × (q ≡ key country.alpha2))
+
+-- line k, counted from 0, is the header of the name
+abbrev pub IsWmmHeaderAt : List Form → List ℕ → ℕ → Type 0
+IsWmmHeaderAt forms name k = form_at forms k ≡ Some (WmmHeader name)
+
+abbrev pub IsBlockOf : List Form → List ℕ → Option WmmBlock → Type 0
+IsBlockOf forms name None = wmm_of name forms ≡ None
+IsBlockOf forms name (Some block) = (wmm_of name forms ≡ Some block.wmm) × (k : ℕ) × (block.line ≡ k + 1) × IsFirst (IsWmmHeaderAt forms name) k
+
+-- the WMM rules of the lines
+abbrev pub AreBlocks : List Form → Blocks → Type 0
+AreBlocks forms blocks = (name : List ℕ) → IsBlockOf forms name (block_named blocks name)
+
+-- what the last header opened
+abbrev pub IsOpen : List Form → Open → List Alpha2 → List ℕ → Type 0
+IsOpen forms Nothing codes name = block_of forms ≡ NoBlock
+IsOpen forms OpenCountries codes name = block_of forms ≡ OfCountries codes
+IsOpen forms OpenWmm codes name = block_of forms ≡ OfName name
+
+-- the parser holds what these lines say
+pub record Stands (forms : List Form) (parser : Parser) : Type 0 where
+  pub countries_are : AreCountries forms parser.countries
+  pub blocks_are : AreBlocks forms parser.blocks
+  pub open_is : IsOpen forms parser.open parser.codes.items parser.name.items
+
+-- each header's codes are codes
+abbrev pub AreSound : List Form → Type 0
+AreSound [] = Unit {0}
+AreSound (Country cs region ∷ above) = AreSound above × AreCodes cs
+AreSound (form ∷ above) = AreSound above
+
+-- the rule is one more of the codes' countries: some have it already, those among the first ones
+abbrev pub forms_at : Alpha2 → List Alpha2 → Form → List Form → List Form
+forms_at code done form above = if list_any (same_code code) done then form ∷ above else above
+
+-- why a header, with the lines above it, wasn't taken
+abbrev pub IsOpenAllStop : List Form → List Alpha2 → Region → LineStop → Type 0
+IsOpenAllStop above cs region (Kind RegionDiffers) = IsContradicted above cs region
+IsOpenAllStop above cs region (Kind kind) = ⊥
+IsOpenAllStop above cs region OutOfMemory = Unit {0}
+
+-- why a rule wasn't taken
+abbrev pub IsAddAllStop : List Form → List Alpha2 → LineStop → Type 0
+IsAddAllStop forms cs (Kind TooManyRules) = (code : Alpha2) × Contains cs code × HasTooMany forms code
+IsAddAllStop forms cs (Kind kind) = ⊥
+IsAddAllStop forms cs OutOfMemory = Unit {0}
+
+-- why a line wasn't taken
+abbrev pub IsLineStop : List Form → List ℕ → LineStop → Type 0
+IsLineStop above line (Kind kind) = IsLineFault above line kind
+IsLineStop above line OutOfMemory = Unit {0}
+
+-- the line was taken
+pub record TakesLine (above : List Form) (line : List ℕ) (parser : Parser) : Type 0 where
+  pub form : Form
+  pub good : IsGoodLine above line form
+  pub stands : Stands (form ∷ above) parser

@@ -1,9 +1,12 @@
 //! The countries of a text, as far as its lines were read.
 
-ghost use Rattle.std.specs.Prelude.{◌≡◌, ℕ, MatchResult};
-ghost use Rattle.rule_tables.specs.Code.{key};
-ghost use Rattle.db_text.specs.declared.countries.Country.{Country};
-ghost use Rattle.db_text.specs.State.{Countries, AddsRule, AddsTo, IsAddStop, IsAddToStop, IsOpenStop, OpensCountry};
+ghost use Rattle.std.specs.Prelude.{◌≡◌, ℕ, ◌+◌, List, ◌∷◌, length, All, MatchResult, Option};
+ghost use Rattle.freq_range.specs.declared.rule.Rule.{Rule};
+ghost use Rattle.rule_tables.specs.Code.{IsCode};
+ghost use Rattle.db_text.specs.Forms as forms;
+ghost use Rattle.db_text.specs.Forms.{Form, block_of, with_named};
+ghost use Rattle.db_text.specs.Forms.Block.{OfCountries};
+ghost use Rattle.db_text.specs.State.{AddsRule, AddsTo, AreCountries, IsAddAllStop, IsAddStop, IsAddToStop, IsOpenAllStop, IsOpenStop, OpensCountry};
 
 use crate::fault::{LineStop, TextKind};
 use freq_range::{Rule, RuleList, contains_rule};
@@ -82,4 +85,40 @@ pub fn add_rule(
         Some(country) => country.add(rule),
         None => Ok(()),
     }
+}
+
+/// Opens the countries of a header on this line.
+pub fn open_countries(
+    alloc: Global,
+    countries: &mut BTreeMap<u16, Country>,
+    codes: &[Alpha2],
+    region: Region,
+    line: u64,
+) -> Result<(), LineStop>
+    ensures { (above : List Form) → line ≡ length above + 1 → All IsCode codes.now → AreCountries above countries.old
+        → MatchResult result
+        (λ _. AreCountries (Form.Country codes.now region ∷ above) countries.new)
+        (IsOpenAllStop above codes.now region) }
+{
+    for code in codes {
+        open_country(alloc, countries, *code, region, line)?;
+    }
+    Ok(())
+}
+
+/// Adds a rule to each country of a header.
+pub fn add_rules(
+    countries: &mut BTreeMap<u16, Country>,
+    codes: &[Alpha2],
+    rule: &Rule,
+) -> Result<(), LineStop>
+    ensures { (above : List Form) (bare : Rule) (name : Option (List ℕ)) → rule.now ≡ with_named above bare name → block_of above ≡ OfCountries codes.now
+        → All IsCode codes.now → AreCountries above countries.old → MatchResult result
+        (λ _. AreCountries (Form.RuleLine bare name ∷ above) countries.new)
+        (IsAddAllStop (Form.RuleLine bare name ∷ above) codes.now) }
+{
+    for code in codes {
+        add_rule(countries, *code, rule)?;
+    }
+    Ok(())
 }

@@ -4,6 +4,7 @@
 mod countries;
 mod fault;
 mod form;
+mod parser;
 mod wmm_rules;
 
 pub use fault::{ParseFault, RuleTextFault, TextFault, TextKind};
