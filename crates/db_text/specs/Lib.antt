@@ -1,5 +1,6 @@
 pub mod Faults
 pub mod Forms
 pub mod Lines
+pub mod Reading
 pub mod Spelling
 pub mod TextOf

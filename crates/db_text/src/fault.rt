@@ -1,5 +1,9 @@
 //! Why a rule text isn't accepted.
 
+ghost use Rattle.std.specs.Prelude.{◌≡◌};
+ghost use Rattle.db_text.specs.declared.fault.LineStop.TheVariants.{OutOfMemory};
+
+use std::alloc::AllocFailed;
 use thiserror::Error;
 
 /// What is wrong with a line, in the order in which a line is judged.
@@ -86,4 +90,21 @@ pub enum RuleTextFault {
     /// No memory was found.
     #[error("no memory")]
     OutOfMemory,
+}
+
+/// Why a line isn't read.
+#[derive(Clone, Copy, Debug, PartialEq, Eq)]
+pub enum LineStop {
+    /// It isn't of its form.
+    Kind(TextKind),
+    /// No memory was found.
+    OutOfMemory,
+}
+
+impl<T: Drop> From<AllocFailed<T>> for LineStop {
+    ghost from_gives = { λ _ e. e ≡ OutOfMemory };
+
+    fn from(_error: AllocFailed<T>) -> LineStop {
+        LineStop::OutOfMemory
+    }
 }

@@ -1,7 +1,15 @@
 //! Reads rule texts (`db.txt` of wireless-regdb).
 #![tactic(auto)]
 
+mod country_header;
 mod fault;
 mod form;
+mod lines;
+mod opening;
+mod rule_line;
+mod rule_reader;
+mod scanner;
+mod wmm_reader;
 
 pub use fault::{ParseFault, RuleTextFault, TextFault, TextKind};
+pub use rule_line::parse_rule;
