@@ -9,12 +9,13 @@ use Rattle.rule_tables.specs.declared.code.Region.{Region}
 use Rattle.db_text.specs.declared.fault.TextKind.{TextKind}
 use Rattle.db_text.specs.declared.fault.TextKind.TheVariants.{LineTooLong, NotUtf8, BadLine, NoBlock, BadCountry, BadRegion, RegionDiffers, BadBand, BadPower, BadFlag, FlagNotInVersion, NoWmm, BadWmm, WmmTwice, TooManyRules, WmmShort, NoRules}
 use Rattle.db_text.specs.declared.form.Item.{Item}
+use Rattle.db_text.specs.declared.form.Opening.{Opening}
+use Rattle.db_text.specs.declared.form.Opening.TheVariants.{Country as OfCountry, Rule as OfRule, Wmm as OfWmm, Item as OfItem}
 use Rattle.db_text.specs.Forms.{Block, Form, IsForm, Names, block_of, entry_of, rules_of, wmm_of}
 use Rattle.db_text.specs.Forms.Block.{OfCountries, OfName}
 use Rattle.db_text.specs.Forms.Form.{Empty, RuleLine}
 use Rattle.db_text.specs.Lines.{bare}
-use Rattle.db_text.specs.Spelling.{AreCodes, AreWords, BeginsWithBand, BeginsWithPower, HasCodes, IsHeader, IsItemLine, IsKeptWord, IsRuleLine, IsSpelledRule, IsWmmHeader, Opening, Opens, RuleText, Word, names_in}
-use Rattle.db_text.specs.Spelling.Opening.{OfCountry, OfWmm, OfRule, OfItem}
+use Rattle.db_text.specs.Spelling.{AreCodes, AreWords, BeginsWithBand, BeginsWithPower, HasCodes, IsHeader, IsItemLine, IsKeptWord, IsRuleLine, IsSpelledRule, IsWmmHeader, Opens, RuleText, Word, names_in}
 
 -- ---- the line of a rule, by itself
 

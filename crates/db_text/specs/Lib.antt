@@ -1,6 +1,7 @@
 pub mod Faults
 pub mod Forms
 pub mod Lines
+pub mod Reading
 pub mod Spelling
 pub mod State
 pub mod TextOf

@@ -14,6 +14,8 @@ use Rattle.db_text.specs.declared.form.Flag.{Flag}
 use Rattle.db_text.specs.declared.form.Flag.TheVariants.{NoOfdm, NoOutdoor, Dfs, NoIr, AutoBw, NoCck, NoIndoor, PtpOnly, PtmpOnly}
 use Rattle.db_text.specs.declared.form.Item.{Item}
 use Rattle.db_text.specs.declared.form.Item.TheVariants.{VoC, ViC, BeC, BkC, VoAp, ViAp, BeAp, BkAp}
+use Rattle.db_text.specs.declared.form.Opening.{Opening}
+use Rattle.db_text.specs.declared.form.Opening.TheVariants.{Country as OfCountry, Wmm as OfWmm, Rule as OfRule, Item as OfItem}
 
 -- ---- how a line begins
 
@@ -27,13 +29,7 @@ item_name ViAp = codes "vi_ap"
 item_name BeAp = codes "be_ap"
 item_name BkAp = codes "bk_ap"
 
--- the four kinds of lines that say something
-pub data Opening : Type 0 where
-  OfCountry : Opening
-  OfWmm : Opening
-  OfRule : Opening
-  OfItem : Item → Opening
-
+-- of the four kinds of lines that say something
 abbrev pub opening_text : Opening → List ℕ
 opening_text OfCountry = codes "country"
 opening_text OfWmm = codes "wmmrule"

@@ -26,3 +26,16 @@ pub enum Item {
     BeAp,
     BkAp,
 }
+
+/// How a line begins, that of its four kinds.
+#[derive(Clone, Copy, Debug, PartialEq, Eq)]
+pub enum Opening {
+    /// `country`: the header of countries.
+    Country,
+    /// `wmmrule`: the header of a WMM rule.
+    Wmm,
+    /// `(`: a rule.
+    Rule,
+    /// The name of an item and a colon.
+    Item(Item),
+}

@@ -2,9 +2,17 @@
 #![tactic(auto)]
 
 mod countries;
+mod country_header;
 mod fault;
 mod form;
+mod lines;
+mod opening;
 mod parser;
+mod rule_line;
+mod rule_reader;
+mod scanner;
+mod wmm_reader;
 mod wmm_rules;
 
 pub use fault::{ParseFault, RuleTextFault, TextFault, TextKind};
+pub use rule_line::parse_rule;

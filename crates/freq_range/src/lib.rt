@@ -4,11 +4,13 @@
 mod errors;
 mod flags;
 mod list;
+mod power;
 mod rule;
 mod wmm;
 
 pub use errors::OutOfMemory;
 pub use flags::RuleFlags;
 pub use list::{RuleList, contains_rule};
+pub use power::mw_to_mbm;
 pub use rule::Rule;
 pub use wmm::{Wmm, WmmEntry};
