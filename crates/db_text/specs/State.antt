@@ -18,7 +18,7 @@ use Rattle.rule_tables.specs.FileFormat.{DropsRepeats}
 use Rattle.db_text.specs.Faults.{HasTooMany, IsContradicted, IsGoodLine, IsLineFault}
 use Rattle.db_text.specs.Forms.{Form, Names, block_of, entry_of, form_at, no_items, rules_of, same_code, with_entry, wmm_of}
 use Rattle.db_text.specs.Forms.Block.{NoBlock, OfCountries, OfName}
-use Rattle.db_text.specs.Forms.Form.{Country, WmmHeader}
+use Rattle.db_text.specs.Forms.Form.{Country, RuleLine, WmmHeader}
 use Rattle.db_text.specs.Spelling.{AreCodes}
 use Rattle.freq_range.specs.declared.rule.Rule.{Rule}
 use Rattle.rule_tables.specs.Code.{key}
@@ -47,7 +47,7 @@ abbrev pub KeepsOthers : Alpha2 → Countries → Countries → Type 0
 KeepsOthers code old new = (q : ℕ) → q ≢ key code → get nat_cmp new q ≡ get nat_cmp old q
 
 -- the rule is one more, or it was there
-abbrev pub AddsRule : Rule → Kept → Country → Type 0
+abbrev pub AddsRule : Rule → Kept → Kept → Type 0
 AddsRule rule old new =
     (Contains old.rules rule × (new ≡ old))
     ⊎ ((Contains old.rules rule → ⊥) × (length old.rules < 128) × (new ≡ record old { rules = old.rules ++ rule ∷ [] }))
@@ -184,9 +184,14 @@ AreSound [] = Unit {0}
 AreSound (Country cs region ∷ above) = AreSound above × AreCodes cs
 AreSound (form ∷ above) = AreSound above
 
--- the rule is one more of the codes' countries: some have it already, those among the first ones
+-- the lines of a code, where the rule has come to the countries of the first codes alone
 abbrev pub forms_at : Alpha2 → List Alpha2 → Form → List Form → List Form
 forms_at code done form above = if list_any (same_code code) done then form ∷ above else above
+
+-- the countries of the lines, where the last line's rule has come to those of the first codes alone
+pub record AreRuled (above : List Form) (rule : Rule) (name : Option (List ℕ)) (done : List Alpha2) (countries : Countries) : Type 0 where
+  pub each : (code : Alpha2) → IsCode code → IsCountryOf (forms_at code done (RuleLine rule name) above) code (country_of countries code)
+  pub keys : (q : ℕ) → IfSome (get nat_cmp countries q) (λ country. IsCode country.alpha2 × (q ≡ key country.alpha2))
 
 -- why a header, with the lines above it, wasn't taken
 abbrev pub IsOpenAllStop : List Form → List Alpha2 → Region → LineStop → Type 0

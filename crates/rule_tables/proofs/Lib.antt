@@ -3,3 +3,4 @@ pub mod Ascending
 pub mod InOrder
 pub mod Refused
 pub mod Repeats
+pub mod Dropped
