@@ -70,28 +70,31 @@ MakesTooMany above line =
 
 -- ---- the kinds
 
--- the kind applies to the line, whose comment and blanks are dropped from the third kind on
+-- the kind applies to a line whose comment and blanks are dropped
+abbrev pub IsWrong : List Form → List ℕ → TextKind → Type 0
+IsWrong above line BadLine = (line ≢ []) × ((opening : Opening) → Opens line opening → ⊥)
+IsWrong above line NoBlock =
+    (Opens line OfRule × (IsInCountries above → ⊥)) ⊎ ((item : Item) × Opens line (OfItem item) × (IsInWmm above → ⊥))
+IsWrong above line BadCountry = Opens line OfCountry × ((cs : List Alpha2) (rest : List ℕ) → HasCodes line cs rest → ⊥)
+IsWrong above line BadRegion = Opens line OfCountry × ((cs : List Alpha2) (region : Region) → IsHeader line cs region → ⊥)
+IsWrong above line RegionDiffers = (cs : List Alpha2) × (region : Region) × IsHeader line cs region × IsContradicted above cs region
+IsWrong above line BadBand = Opens line OfRule × LacksBand line
+IsWrong above line BadPower = Opens line OfRule × LacksPower line
+IsWrong above line BadFlag = Opens line OfRule × LacksWords line
+IsWrong above line FlagNotInVersion = HasUnkeptFlag line
+IsWrong above line NoWmm = NamesNoWmm above line
+IsWrong above line BadWmm =
+    (Opens line OfWmm × ((name : List ℕ) → IsWmmHeader line name → ⊥))
+    ⊎ ((item : Item) × Opens line (OfItem item) × (((e : WmmEntry) → IsItemLine line item e → ⊥) ⊎ HasItem above item))
+IsWrong above line WmmTwice = (name : List ℕ) × IsWmmHeader line name × (wmm_of name above ≢ None)
+IsWrong above line TooManyRules = MakesTooMany above line
+IsWrong above line kind = ⊥
+
+-- the kind applies to a line as it stands in the text
 abbrev pub Applies : List Form → List ℕ → TextKind → Type 0
 Applies above line LineTooLong = 4096 < length line
 Applies above line NotUtf8 = IsUtf8 line → ⊥
-Applies above line BadLine = (bare line ≢ []) × ((opening : Opening) → Opens (bare line) opening → ⊥)
-Applies above line NoBlock =
-    (Opens (bare line) OfRule × (IsInCountries above → ⊥)) ⊎ ((item : Item) × Opens (bare line) (OfItem item) × (IsInWmm above → ⊥))
-Applies above line BadCountry = Opens (bare line) OfCountry × ((cs : List Alpha2) (rest : List ℕ) → HasCodes (bare line) cs rest → ⊥)
-Applies above line BadRegion = Opens (bare line) OfCountry × ((cs : List Alpha2) (region : Region) → IsHeader (bare line) cs region → ⊥)
-Applies above line RegionDiffers = (cs : List Alpha2) × (region : Region) × IsHeader (bare line) cs region × IsContradicted above cs region
-Applies above line BadBand = Opens (bare line) OfRule × LacksBand (bare line)
-Applies above line BadPower = Opens (bare line) OfRule × LacksPower (bare line)
-Applies above line BadFlag = Opens (bare line) OfRule × LacksWords (bare line)
-Applies above line FlagNotInVersion = HasUnkeptFlag (bare line)
-Applies above line NoWmm = NamesNoWmm above (bare line)
-Applies above line BadWmm =
-    (Opens (bare line) OfWmm × ((name : List ℕ) → IsWmmHeader (bare line) name → ⊥))
-    ⊎ ((item : Item) × Opens (bare line) (OfItem item) × (((e : WmmEntry) → IsItemLine (bare line) item e → ⊥) ⊎ HasItem above item))
-Applies above line WmmTwice = (name : List ℕ) × IsWmmHeader (bare line) name × (wmm_of name above ≢ None)
-Applies above line TooManyRules = MakesTooMany above (bare line)
-Applies above line WmmShort = ⊥
-Applies above line NoRules = ⊥
+Applies above line kind = IsWrong above (bare line) kind
 
 -- the place of a kind in the list
 abbrev pub place_of_kind : TextKind → ℕ

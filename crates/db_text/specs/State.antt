@@ -8,6 +8,7 @@ use Rattle.std.specs.Cmp.Lexicographic.{slice_cmp}
 use Rattle.std.specs.declared.alloc.Global.{Global}
 use Rattle.std.specs.declared.vec.Vec.{Vec}
 use Rattle.freq_range.specs.Valid.{IsValidEntry}
+use Rattle.freq_range.specs.declared.wmm.Wmm.{Wmm}
 use Rattle.freq_range.specs.declared.wmm.WmmEntry.{WmmEntry}
 use Rattle.db_text.specs.declared.form.Item.{Item}
 use Rattle.db_text.specs.declared.wmm_rules.WmmBlock.{WmmBlock}
@@ -15,8 +16,8 @@ use Rattle.std.specs.List.{list_any}
 use Rattle.freq_range.specs.First.{IsFirst}
 use Rattle.rule_tables.specs.Code.{IsCode}
 use Rattle.rule_tables.specs.FileFormat.{DropsRepeats}
-use Rattle.db_text.specs.Faults.{HasTooMany, IsContradicted, IsGoodLine, IsLineFault}
-use Rattle.db_text.specs.Forms.{Form, Names, block_of, entry_of, form_at, no_items, rules_of, same_code, with_entry, wmm_of}
+use Rattle.db_text.specs.Faults.{HasTooMany, IsContradicted, IsGoodLine, IsLineFault, IsWrong, place_of_kind}
+use Rattle.db_text.specs.Forms.{Form, IsForm, Names, block_of, entry_of, form_at, no_items, rules_of, same_code, with_entry, wmm_of}
 use Rattle.db_text.specs.Forms.Block.{NoBlock, OfCountries, OfName}
 use Rattle.db_text.specs.Forms.Form.{Country, RuleLine, WmmHeader}
 use Rattle.db_text.specs.Spelling.{AreCodes}
@@ -31,7 +32,7 @@ use Rattle.db_text.specs.declared.parser.Parser.{Parser}
 use Rattle.db_text.specs.declared.fault.LineStop.{LineStop}
 use Rattle.db_text.specs.declared.fault.LineStop.TheVariants.{Kind, OutOfMemory}
 use Rattle.db_text.specs.declared.fault.TextKind.{TextKind}
-use Rattle.db_text.specs.declared.fault.TextKind.TheVariants.{BadWmm, RegionDiffers, TooManyRules, WmmTwice}
+use Rattle.db_text.specs.declared.fault.TextKind.TheVariants.{BadWmm, NoWmm, RegionDiffers, TooManyRules, WmmTwice}
 
 -- ---- countries
 
@@ -215,3 +216,31 @@ pub record TakesLine (above : List Form) (line : List ℕ) (parser : Parser) : T
   pub form : Form
   pub good : IsGoodLine above line form
   pub stands : Stands (form ∷ above) parser
+
+-- ---- one line, whose comment and blanks are dropped
+
+-- the kind is the first that applies
+pub record IsBareFault (above : List Form) (line : List ℕ) (kind : TextKind) : Type 0 where
+  pub applies : IsWrong above line kind
+  pub first : (other : TextKind) → place_of_kind other < place_of_kind kind → IsWrong above line other → ⊥
+
+abbrev pub IsBareStop : List Form → List ℕ → LineStop → Type 0
+IsBareStop above line (Kind kind) = IsBareFault above line kind
+IsBareStop above line OutOfMemory = Unit {0}
+
+-- the line was taken
+pub record TakesBare (above : List Form) (line : List ℕ) (parser : Parser) : Type 0 where
+  pub form : Form
+  pub is : IsForm line form
+  pub good : (kind : TextKind) → IsWrong above line kind → ⊥
+  pub stands : Stands (form ∷ above) parser
+
+-- why a rule's name wasn't found
+abbrev pub IsNameStop : Blocks → Option (List ℕ) → LineStop → Type 0
+IsNameStop blocks None stop = ⊥
+IsNameStop blocks (Some name) stop = (stop ≡ Kind NoWmm) × (block_named blocks name ≡ None)
+
+-- the WMM rule of a name that is there
+abbrev pub NamesWmm : Blocks → Option (List ℕ) → Option Wmm → Type 0
+NamesWmm blocks None wmm = wmm ≡ None
+NamesWmm blocks (Some name) wmm = (block : WmmBlock) × (block_named blocks name ≡ Some block) × (wmm ≡ Some block.wmm)
