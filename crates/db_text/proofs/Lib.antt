@@ -1,8 +1,10 @@
 pub mod CountryLaws
 pub mod FormLaws
+pub mod HeaderTaken
 pub mod LineForms
 pub mod LineLaws
 pub mod NamedBlocks
 pub mod RuleLaws
+pub mod RuleTaken
 pub mod Stops
 pub mod WmmLaws
