@@ -7,4 +7,5 @@ pub mod NamedBlocks
 pub mod RuleLaws
 pub mod RuleTaken
 pub mod Stops
+pub mod Taken
 pub mod WmmLaws

@@ -1,5 +1,6 @@
 -- A rule or an item is taken, or has the first kind of fault that applies.
 use Rattle.std.proofs.Common.{◌≡◌, ◌≢◌, ℕ, ◌+◌, ◌<◌, List, [], ◌∷◌, ◌++◌, length, Contains, Option, Some, None, All, arith, refl, sym, subst, ◌∙◌, ap, inl, inr}
+use Rattle.std.proofs.lemmas.List.{append_assoc}
 use Rattle.std.proofs.lemmas.List.Elements.{All-contains}
 use Rattle.freq_range.proofs.Members.{Contains-cases, Contains-head, Contains-nothing}
 use Rattle.freq_range.specs.declared.rule.Rule.{Rule}
@@ -18,7 +19,7 @@ use Rattle.db_text.specs.Forms.{Block, Form, block_of, wmm_of}
 use Rattle.db_text.specs.Forms.Block.{OfCountries, OfName}
 use Rattle.db_text.specs.Forms.Form.{RuleLine}
 use Rattle.db_text.specs.Reading.{IsRuleKind}
-use Rattle.db_text.specs.Spelling.{BeginsWithBand, BeginsWithPower, IsItemLine, IsKeptWord, IsRuleLine, IsSpelledRule, Opens, RuleText, list_of, names_in, power_part, words_text}
+use Rattle.db_text.specs.Spelling.{BeginsWithBand, BeginsWithPower, IsItemLine, IsKeptWord, IsRuleLine, IsSpelledRule, Opens, RuleText, band_text, list_of, names_in, power_part, words_text}
 use Rattle.db_text.specs.State.{AddsItemTo, AreBlocks, AreCountries, AreSound, Blocks, Countries, IsAddAllStop, IsAddItemToStop, IsBareFault, IsBareStop, IsNameStop, NamesWmm}
 use Rattle.db_text.proofs.FormLaws.{Names-later, block_codes, block_named_by}
 use Rattle.db_text.proofs.LineForms.{IsItemLine-opens, IsSpelledRule-opens, IsSpelledRule-unique}
@@ -72,7 +73,8 @@ rule_nothing above line opens outside = record {
 
 -- what is spelled begins with a band, and then with a power
 pub spelled_band : (line : List ℕ) (t : RuleText) (rule : Rule) → IsSpelledRule line t rule → BeginsWithBand line (power_part t.gain t.power ++ words_text t.words)
-spelled_band line t rule is = (t.band, rule.start_khz, rule.end_khz, rule.max_bw_khz, is.band, is.spelled)
+spelled_band line t rule is = (t.band, rule.start_khz, rule.end_khz, rule.max_bw_khz, is.band,
+    is.spelled ∙ append_assoc (band_text t.band) (power_part t.gain t.power) (words_text t.words))
 
 pub spelled_power : (line : List ℕ) (t : RuleText) (rule : Rule) → IsSpelledRule line t rule → BeginsWithPower (power_part t.gain t.power ++ words_text t.words) (words_text t.words)
 spelled_power line t rule is = (t.gain, t.power, rule.eirp_mbm, is.power, refl)
