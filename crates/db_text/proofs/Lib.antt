@@ -1,6 +1,10 @@
+pub mod Assembled
+pub mod Ended
 pub mod CountryLaws
 pub mod FormLaws
 pub mod HeaderTaken
+pub mod LateLaws
+pub mod LeastLines
 pub mod LineForms
 pub mod LineLaws
 pub mod NamedBlocks

@@ -2,6 +2,7 @@
 
 ghost use Rattle.std.specs.Prelude.{◌≡◌};
 ghost use Rattle.db_text.specs.declared.fault.LineStop.TheVariants.{OutOfMemory};
+ghost use Rattle.db_text.specs.declared.fault.ParseFault.TheVariants.{OutOfMemory as ParseOutOfMemory};
 
 use std::alloc::{AllocError, AllocFailed};
 use thiserror::Error;
@@ -79,6 +80,14 @@ pub enum ParseFault {
     /// No memory was found.
     #[error("no memory")]
     OutOfMemory,
+}
+
+impl From<reg_base::OutOfMemory> for ParseFault {
+    ghost from_gives = { λ _ e. e ≡ ParseOutOfMemory };
+
+    fn from(_error: reg_base::OutOfMemory) -> ParseFault {
+        ParseFault::OutOfMemory
+    }
 }
 
 /// Why a text isn't the line of a rule.

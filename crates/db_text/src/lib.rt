@@ -1,18 +1,23 @@
 //! Reads rule texts (`db.txt` of wireless-regdb).
 #![tactic(auto)]
 
+mod assemble;
 mod countries;
 mod country_header;
 mod fault;
 mod form;
+mod late;
 mod lines;
+mod map_values;
 mod opening;
 mod parser;
 mod rule_line;
 mod rule_reader;
 mod scanner;
+mod text;
 mod wmm_reader;
 mod wmm_rules;
 
 pub use fault::{ParseFault, RuleTextFault, TextFault, TextKind};
 pub use rule_line::parse_rule;
+pub use text::parse;
