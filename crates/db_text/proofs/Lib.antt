@@ -1,0 +1,10 @@
+pub mod Codes
+pub mod Comments
+pub mod Cuts
+pub mod Digits
+pub mod Lists
+pub mod Names
+pub mod Openings
+pub mod Solid
+pub mod Values
+pub mod Words
