@@ -1,6 +1,8 @@
 -- The codes and the region of a header.
-use Rattle.std.proofs.Common.{◌≡◌, ◌≢◌, ℕ, ◌+◌, ◌<◌, ◌≤◌, List, [], ◌∷◌, ◌++◌, Bool, true, false, cond, length, map, drop, Option, Some, None, ◌⊎◌, inl, inr, refl, ap, ◌∙◌, sym, subst, arith, append_assoc, rules}
-use Rattle.std.specs.Prelude.{codes, All, ◌==◌}
+use Rattle.std.proofs.Common.{◌≡◌, ◌≢◌, ℕ, ◌+◌, ◌<◌, ◌≤◌, List, [], ◌∷◌, ◌++◌, Bool, true, false, cond, length, get_or, map, drop, Option, Some, None, ◌⊎◌, inl, inr, refl, ap, ◌∙◌, sym, subst, arith, append_assoc, append-nil, rules}
+use denote.Ref.{Bor}
+use Rattle.std.specs.Option.{option_copied}
+use Rattle.std.specs.Prelude.{codes, All, ◌==◌, MatchOption}
 use Rattle.std.specs.List.{flat_map, slice_split}
 use Rattle.std.proofs.lemmas.Bool.Decides.{nat_tests}
 use Rattle.std.proofs.lemmas.List.Elements.{All-append, All-cons, All-head, All-map, All-tail}
@@ -10,10 +12,12 @@ use Rattle.rule_tables.specs.declared.code.Alpha2.{Alpha2}
 use Rattle.rule_tables.specs.declared.code.Region.{Region}
 use Rattle.rule_tables.specs.declared.code.Region.TheVariants.{Unset, Fcc, Etsi, Jp}
 use Rattle.db_text.specs.declared.fault.TextKind.{TextKind}
-use Rattle.db_text.specs.declared.fault.TextKind.TheVariants.{BadCountry, BadRegion}
-use Rattle.db_text.specs.Reading.{◌>>=◌, IsHeaderKind, code_of, codes_of, header_codes, is_code, parts_of, region_of, same_bytes, titled_at, front_of, behind_of}
+use Rattle.db_text.specs.declared.fault.LineStop.{LineStop}
+use Rattle.db_text.specs.declared.fault.LineStop.TheVariants.{Kind, OutOfMemory}
+use Rattle.db_text.specs.declared.fault.TextKind.TheVariants.{LineTooLong, NotUtf8, BadLine, NoBlock, BadCountry, BadRegion, RegionDiffers, BadBand, BadPower, BadFlag, FlagNotInVersion, NoWmm, BadWmm, WmmTwice, TooManyRules, WmmShort, NoRules}
+use Rattle.db_text.specs.Reading.{◌>>=◌, IsCodeStop, IsHeaderKind, IsHeaderStop, code_of, codes_of, header_codes, is_code, parts_of, region_of, same_bytes, titled_at, front_of, behind_of}
 use Rattle.db_text.specs.Spelling.{AreCodes, HasCodes, IsHeader, codes_text, region_name}
-use Rattle.db_text.proofs.Cuts.{parts-cut}
+use Rattle.db_text.proofs.Cuts.{parts-cut, parts-cut_by}
 use Rattle.db_text.proofs.Lists.{Lacks, listed, listed-parts, parts-listed}
 use Rattle.db_text.proofs.Names.{titled_at-again, titled_at-reads}
 use Rattle.db_text.proofs.Words.{bind_some, chosen, known, same_bytes-again, same_bytes-reads}
@@ -49,7 +53,7 @@ unfolding code_of
 code_of-again code h = rw (is_code-from code h) refl
 
 code-lacks : (byte : ℕ) (c : Alpha2) → byte ≢ 48 → (byte < 65) ⊎ (90 < byte) → IsCode c → Lacks byte (code_bytes c)
-code-lacks byte c no out h =
+code-lacks byte c other out h =
     let first : c.a ≡ byte → ⊥ = λ e. grind arith in
     let second : c.b ≡ byte → ⊥ = λ e. grind arith in
     All-cons (λ b. b ≡ byte → ⊥) c.a (c.b ∷ []) first (All-cons (λ b. b ≡ byte → ⊥) c.b [] second (search rules))
@@ -99,27 +103,27 @@ codes_of-spelled list cs e =
     (record { some = text.0; each = read.0 }, text.1)
 
 lack_comma : (cs : List Alpha2) → All IsCode cs → All (Lacks 44) (map code_bytes cs)
-lack_comma cs each = All-map (Lacks 44) code_bytes cs (λ i c in_range. code-lacks 44 c (λ e. grind arith) (inl (omega arith)) (each i c in_range))
+lack_comma cs each = All-map (Lacks 44) code_bytes cs (λ i d in_range. code-lacks 44 (get_or cs i d) (λ e. absurd (omega (arith, e))) (inl (omega arith)) (each i d in_range))
 
 pub codes_of-text : (cs : List Alpha2) → AreCodes cs → codes_of (parts_of 44 (Some (codes_text cs))) ≡ Some cs
 codes_of-text [] h = absurd (omega (arith, h.some))
 codes_of-text (c ∷ cs) h =
     let each = All-tail IsCode c cs h.each in
-    let lacks = code-lacks 44 c (λ e. grind arith) (inl (omega arith)) (All-head IsCode c cs h.each) in
+    let lacks = code-lacks 44 c (λ e. absurd (omega (arith, e))) (inl (omega arith)) (All-head IsCode c cs h.each) in
     let parts : parts_of 44 (Some (c.a ∷ c.b ∷ tail_text cs)) ≡ map code_bytes (c ∷ cs) = rw (← listed-codes cs) (parts-listed (code_bytes c) (map code_bytes cs) lacks (lack_comma cs each)) in
     rw parts (codes_of-again (c ∷ cs) h.each)
 
 tail-lacks : (cs : List Alpha2) → All IsCode cs → Lacks 58 (tail_text cs)
 tail-lacks [] each = search rules
 tail-lacks (c ∷ cs) each =
-    let here = code-lacks 58 c (λ e. grind arith) (inl (omega arith)) (All-head IsCode c cs each) in
-    let comma : 44 ≡ 58 → ⊥ = λ e. grind arith in
+    let here = code-lacks 58 c (λ e. absurd (omega (arith, e))) (inl (omega arith)) (All-head IsCode c cs each) in
+    let comma : 44 ≡ 58 → ⊥ = λ e. absurd (omega (arith, e)) in
     All-append (λ b. b ≡ 58 → ⊥) (44 ∷ code_bytes c) (tail_text cs) (All-cons (λ b. b ≡ 58 → ⊥) 44 (code_bytes c) comma here) (tail-lacks cs (All-tail IsCode c cs each))
 
 codes-lack_colon : (cs : List Alpha2) → All IsCode cs → Lacks 58 (codes_text cs)
 codes-lack_colon [] each = search rules
 codes-lack_colon (c ∷ cs) each =
-    All-append (λ b. b ≡ 58 → ⊥) (code_bytes c) (tail_text cs) (code-lacks 58 c (λ e. grind arith) (inl (omega arith)) (All-head IsCode c cs each)) (tail-lacks cs (All-tail IsCode c cs each))
+    All-append (λ b. b ≡ 58 → ⊥) (code_bytes c) (tail_text cs) (code-lacks 58 c (λ e. absurd (omega (arith, e))) (inl (omega arith)) (All-head IsCode c cs each)) (tail-lacks cs (All-tail IsCode c cs each))
 
 -- ---- the loop over the parts of a list
 
@@ -127,6 +131,42 @@ codes-lack_colon (c ∷ cs) each =
 abbrev pub onto_read : List Alpha2 → Option (List Alpha2) → Option (List Alpha2)
 onto_read read None = None
 onto_read read (Some cs) = Some (read ++ cs)
+
+pub onto_read-more : (read : List Alpha2) (part : List ℕ) (parts : List (List ℕ)) (code : Alpha2) → code_of part ≡ Some code → onto_read (read ++ code ∷ []) (codes_of parts) ≡ onto_read read (codes_of (part ∷ parts))
+unfolding codes_of
+onto_read-more read part parts code e = rw e (behind (codes_of parts))
+  where
+    behind : (o : Option (List Alpha2)) → onto_read (read ++ code ∷ []) o ≡ onto_read read (o >>= onto_codes code)
+    behind None = refl
+    behind (Some cs) = ap (λ (xs : List Alpha2). Some xs) (append_assoc read (code ∷ []) cs)
+
+pub onto_read-stop : (read : List Alpha2) (part : List ℕ) (parts : List (List ℕ)) → code_of part ≡ None → onto_read read (codes_of (part ∷ parts)) ≡ None
+unfolding codes_of
+onto_read-stop read part parts e = rw e refl
+
+pub onto_read-end : (read : List Alpha2) → onto_read read (codes_of []) ≡ Some read
+unfolding codes_of
+onto_read-end read = ap (λ (xs : List Alpha2). Some xs) (append-nil read)
+
+-- where the loop stands: what was read, before the codes of what is left, are the codes of the whole
+abbrev pub ReadSoFar : List ℕ → Option (List ℕ) → List Alpha2 → Type 0
+ReadSoFar list left read = onto_read read (codes_of (parts_of 44 left)) ≡ codes_of (parts_of 44 (Some list))
+
+-- behind one part: what is left is behind its comma
+pub read_so_far-more : (list text part : List ℕ) (behind : Option (Bor (List ℕ))) (read : List Alpha2) (code : Alpha2) → part ≡ front_of 44 text → MatchOption behind (behind_of 44 text ≡ None) (λ rest. behind_of 44 text ≡ Some rest.now) → code_of part ≡ Some code → ReadSoFar list (Some text) read → ReadSoFar list (option_copied behind) (read ++ code ∷ [])
+read_so_far-more list text part behind read code front cut e h =
+    onto_read-more read part (parts_of 44 (option_copied behind)) code e ∙ ap (λ (parts : List (List ℕ)). onto_read read (codes_of parts)) (sym (parts-cut_by 44 text part behind front cut)) ∙ h
+
+pub read_so_far-stop : (list text part : List ℕ) (read : List Alpha2) → part ≡ front_of 44 text → code_of part ≡ None → ReadSoFar list (Some text) read → codes_of (parts_of 44 (Some list)) ≡ None
+read_so_far-stop list text part read front e h =
+    sym h ∙ ap (λ (parts : List (List ℕ)). onto_read read (codes_of parts)) (parts-cut 44 text ∙ rw (← front) refl) ∙ onto_read-stop read part (parts_of 44 (behind_of 44 text)) e
+
+pub read_so_far-end : (list : List ℕ) (read : List Alpha2) → ReadSoFar list None read → codes_of (parts_of 44 (Some list)) ≡ Some read
+read_so_far-end list read h = sym h ∙ onto_read-end read
+
+pub onto_read-start : (o : Option (List Alpha2)) → onto_read [] o ≡ o
+onto_read-start None = refl
+onto_read-start (Some cs) = refl
 
 -- ---- a header's codes
 
@@ -159,6 +199,43 @@ HasCodes-unique line cs ds rest other p q = some_pair_parts cs ds rest other (sy
 
 pub header_codes-none : (line : List ℕ) → header_codes line ≡ None → (cs : List Alpha2) (rest : List ℕ) → HasCodes line cs rest → ⊥
 header_codes-none line none cs rest h = let read = header_codes-again line cs rest h in cc
+
+-- ---- a header's codes, in the steps of the code
+
+pub header_codes-by : (line list rest : List ℕ) (cs : List Alpha2) → titled_at (codes "country") line ≡ Some (list, rest) → codes_of (parts_of 44 (Some list)) ≡ Some cs → header_codes line ≡ Some (cs, rest)
+unfolding header_codes
+header_codes-by line list rest cs e f = rw (e, f) refl
+
+untitled : (line : List ℕ) → titled_at (codes "country") line ≡ None → header_codes line ≡ None
+unfolding header_codes
+untitled line e = rw e refl
+
+pub no_title : (line : List ℕ) → titled_at (codes "country") line ≡ None → IsHeaderKind line BadCountry
+no_title line e = header_codes-none line (untitled line e)
+
+no_codes : (line list rest : List ℕ) → titled_at (codes "country") line ≡ Some (list, rest) → codes_of (parts_of 44 (Some list)) ≡ None → header_codes line ≡ None
+unfolding header_codes
+no_codes line list rest e f = rw (e, f) refl
+
+pub code_stop-header : (line list rest : List ℕ) (stop : LineStop) → titled_at (codes "country") line ≡ Some (list, rest) → IsCodeStop list stop → IsHeaderStop line stop
+code_stop-header line list rest OutOfMemory e h = tt
+code_stop-header line list rest (Kind BadCountry) e h = header_codes-none line (no_codes line list rest e h)
+code_stop-header line list rest (Kind LineTooLong) e h = absurd h
+code_stop-header line list rest (Kind NotUtf8) e h = absurd h
+code_stop-header line list rest (Kind BadLine) e h = absurd h
+code_stop-header line list rest (Kind NoBlock) e h = absurd h
+code_stop-header line list rest (Kind BadRegion) e h = absurd h
+code_stop-header line list rest (Kind RegionDiffers) e h = absurd h
+code_stop-header line list rest (Kind BadBand) e h = absurd h
+code_stop-header line list rest (Kind BadPower) e h = absurd h
+code_stop-header line list rest (Kind BadFlag) e h = absurd h
+code_stop-header line list rest (Kind FlagNotInVersion) e h = absurd h
+code_stop-header line list rest (Kind NoWmm) e h = absurd h
+code_stop-header line list rest (Kind BadWmm) e h = absurd h
+code_stop-header line list rest (Kind WmmTwice) e h = absurd h
+code_stop-header line list rest (Kind TooManyRules) e h = absurd h
+code_stop-header line list rest (Kind WmmShort) e h = absurd h
+code_stop-header line list rest (Kind NoRules) e h = absurd h
 
 -- ---- the region
 

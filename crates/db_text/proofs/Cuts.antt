@@ -8,7 +8,8 @@ use Rattle.std.proofs.lemmas.List.Elements.{All-cons, All-head, All-tail}
 use Rattle.std.proofs.lemmas.List.Splits.{slice_split-cons_yes, slice_split-cons_no}
 use Rattle.std.proofs.lemmas.Option.{same_Some}
 use denote.Ref.{Bor}
-use Rattle.std.specs.Prelude.{MatchOption}
+use Rattle.std.specs.Option.{option_copied}
+use Rattle.std.specs.Prelude.{IfSome, MatchOption}
 use Rattle.db_text.specs.Lines.{lines_of}
 use Rattle.db_text.specs.Reading.{front_of, behind_of, parts_of}
 
@@ -80,6 +81,20 @@ parts-cut byte (b ∷ bs) =
       | true ↦ refl
       | false ↦ rw (parts-cut byte bs) refl
     ]
+
+-- the same, for a cut that was made
+pub parts-cut_by : (byte : ℕ) (bs front : List ℕ) (behind : Option (Bor (List ℕ))) → front ≡ front_of byte bs → MatchOption behind (behind_of byte bs ≡ None) (λ rest. behind_of byte bs ≡ Some rest.now) → parts_of byte (Some bs) ≡ front ∷ parts_of byte (option_copied behind)
+parts-cut_by byte bs front None is none = parts-cut byte bs ∙ rw (none, ← is) refl
+parts-cut_by byte bs front (Some rest) is more = parts-cut byte bs ∙ rw (more, ← is) refl
+
+-- how much is left of a list, with the list itself
+abbrev pub size_left : Option (List ℕ) → ℕ
+size_left None = 0
+size_left (Some bs) = length bs + 1
+
+pub size_left-less : (bs : List ℕ) (behind : Option (Bor (List ℕ))) → IfSome behind (λ rest. length rest.now < length bs) → size_left (option_copied behind) < length bs + 1
+size_left-less bs None h = omega arith
+size_left-less bs (Some rest) h = omega (arith, h)
 
 -- ---- a front without the byte
 

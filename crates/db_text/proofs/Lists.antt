@@ -2,6 +2,7 @@
 use Rattle.std.proofs.Common.{◌≡◌, ℕ, ◌<◌, List, [], ◌∷◌, ◌++◌, Bool, true, false, length, drop, map, Option, Some, None, refl, ap, ◌∙◌, sym, cond, append-nil, arith, not, ◌&&◌, rules}
 use Rattle.std.specs.Prelude.{All, ◌==◌}
 use Rattle.std.specs.List.{slice_split, onto_first, flat_map, list_all}
+use Rattle.std.proofs.lemmas.Bool.{and_parts, eqb-false, not-true}
 use Rattle.std.proofs.lemmas.Bool.Decides.{nat_tests}
 use Rattle.std.proofs.lemmas.List.Elements.{All-cons, All-head, All-tail}
 use Rattle.db_text.specs.Reading.{parts_of, front_of, behind_of}
@@ -23,11 +24,11 @@ onto-first b bs (part ∷ parts) e = let same : part ++ listed parts ≡ bs = ap
 
 pub listed-parts : (bs : List ℕ) → listed (parts_of 44 (Some bs)) ≡ 44 ∷ bs
 listed-parts [] = refl
-listed-parts (b ∷ bs) = split (b == 44) refl
+listed-parts (b ∷ bs) = split (b == 44) refl (listed-parts bs)
   where
-    split : (t : Bool) → t ≡ (b == 44) → listed (cond t ([] ∷ slice_split (λ x. x == 44) bs) (onto_first b (slice_split (λ x. x == 44) bs))) ≡ 44 ∷ b ∷ bs
-    split true is = let comma : b ≡ 44 = grind (arith, nat_tests) in rw (listed-parts bs, comma) refl
-    split false is = onto-first b bs (slice_split (λ x. x == 44) bs) (listed-parts bs)
+    split : (t : Bool) → t ≡ (b == 44) → listed (slice_split (λ x. x == 44) bs) ≡ 44 ∷ bs → listed (cond t ([] ∷ slice_split (λ x. x == 44) bs) (onto_first b (slice_split (λ x. x == 44) bs))) ≡ 44 ∷ b ∷ bs
+    split true is more = let comma : b ≡ 44 = grind (arith, nat_tests) in rw (more, comma) refl
+    split false is more = onto-first b bs (slice_split (λ x. x == 44) bs) more
 
 -- ---- the list, then parts
 
@@ -42,8 +43,6 @@ parts-listed part (next ∷ parts) lacks each =
 
 pub lacks-by : (byte : ℕ) (xs : List ℕ) → list_all (λ b. not (b == byte)) xs ≡ true → Lacks byte xs
 lacks-by byte [] e = search rules
-lacks-by byte (x ∷ xs) e = both (x == byte) refl e
-  where
-    both : (t : Bool) → t ≡ (x == byte) → (not t && list_all (λ b. not (b == byte)) xs) ≡ true → Lacks byte (x ∷ xs)
-    both true is h = absurd cc
-    both false is h = All-cons (λ b. b ≡ byte → ⊥) x xs (λ same. let found : (x == byte) ≡ true = grind (arith, nat_tests) in cc) (lacks-by byte xs h)
+lacks-by byte (x ∷ xs) e =
+    let p = and_parts (not (x == byte)) (list_all (λ b. not (b == byte)) xs) e in
+    All-cons (λ b. b ≡ byte → ⊥) x xs (eqb-false x byte (not-true (x == byte) p.0)) (lacks-by byte xs p.1)

@@ -36,7 +36,7 @@ is_name-again name h =
 
 -- bytes of names are neither commas nor colons
 pub name-lacks : (byte : ℕ) (name : List ℕ) → (IsNameByte byte → ⊥) → All IsNameByte name → Lacks byte name
-name-lacks byte name no each i b in_range = λ same. no (subst IsNameByte same (each i b in_range))
+name-lacks byte name other each i b in_range = λ same. other (subst IsNameByte same (each i b in_range))
 
 pub no_comma : IsNameByte 44 → ⊥
 no_comma h = grind arith

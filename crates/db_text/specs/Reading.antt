@@ -65,9 +65,9 @@ pub record IsBareRule (line : List ℕ) (rule : Rule) : Type 0 where
 -- the kind is the first that applies to the squeezed line of a rule that stands for itself
 abbrev pub IsBareKind : List ℕ → TextKind → Type 0
 IsBareKind line BadLine = Opens line OfRule → ⊥
-IsBareKind line BadFlag = ((rest : List ℕ) × (behind : List ℕ) × BeginsWithBand line rest × BeginsWithPower rest behind) × ((t : RuleText) (rule : Rule) → IsSpelledRule line t rule → names_in t.words ≢ [])
-IsBareKind line FlagNotInVersion = (t : RuleText) × (rule : Rule) × IsSpelledRule line t rule × (names_in t.words ≡ []) × (All IsKeptWord t.words → ⊥)
-IsBareKind line kind = IsPartKind line kind
+IsBareKind line BadFlag = Opens line OfRule × ((rest : List ℕ) × (behind : List ℕ) × BeginsWithBand line rest × BeginsWithPower rest behind) × ((t : RuleText) (rule : Rule) → IsSpelledRule line t rule → names_in t.words ≢ [])
+IsBareKind line FlagNotInVersion = Opens line OfRule × (t : RuleText) × (rule : Rule) × IsSpelledRule line t rule × (names_in t.words ≡ []) × (All IsKeptWord t.words → ⊥)
+IsBareKind line kind = Opens line OfRule × IsPartKind line kind
 
 -- the first part of the line of a rule that isn't of its form; or all are, and a flag has no bit
 abbrev pub IsRuleKind : List ℕ → TextKind → Type 0
@@ -425,6 +425,11 @@ gather g (part ∷ parts) = do
 unfoldable pub words_at : List ℕ → Option Gathered
 words_at [] = Some nothing_gathered
 words_at (b ∷ bs) = if b == 44 then gather nothing_gathered (parts_of 44 (Some bs)) else None
+
+-- the rule of a band, a power and flags
+abbrev pub rule_from : Band → ℕ → RuleFlags → Rule
+rule_from band mbm flags =
+    record { start_khz = band.start_khz; end_khz = band.end_khz; max_bw_khz = band.width_khz; flags = flags; eirp_mbm = mbm; cac_s = 0; wmm = None }
 
 -- what is read of a rule's line
 pub record IsSpelledAs (line : List ℕ) (rule : Rule) (name : Option (List ℕ)) (kept : Bool) : Type 0 where

@@ -33,15 +33,9 @@ fn bare_rule_of(line: &[u8]) -> Result<Rule, TextKind>
 pub fn parse_rule(alloc: Global, text: &[u8]) -> Result<Rule, RuleTextFault>
     ensures rule { MatchResult result (λ rule. IsTextOfRule text.now rule) (IsParseRuleFault text.now) }
 {
-    if let Err(kind) = readable(text) {
-        return Err(RuleTextFault::Kind(kind));
-    }
+    readable(text)?;
     let mut buffer = Vec::new(alloc);
-    if squeeze(text, &mut buffer).is_err() {
-        return Err(RuleTextFault::OutOfMemory);
-    }
-    match bare_rule_of(buffer.as_slice()) {
-        Ok(rule) => Ok(rule),
-        Err(kind) => Err(RuleTextFault::Kind(kind)),
-    }
+    squeeze(text, &mut buffer)?;
+    let rule = bare_rule_of(buffer.as_slice())?;
+    Ok(rule)
 }

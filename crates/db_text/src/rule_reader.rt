@@ -1,14 +1,14 @@
 //! Reads the line of a rule.
 
 ghost use Rattle.std.specs.Prelude.{◌≡◌, MatchResult, option_map};
-ghost use Rattle.db_text.specs.Reading.{IsPartKind, IsRuleKind, IsSpelledAs};
+ghost use Rattle.db_text.specs.Reading.{IsPartKind, IsRuleKind, IsSpelledAs, rule_from};
 ghost use Rattle.db_text.specs.Spelling.{IsRuleLine};
 
-use crate::band_reader::band_at;
+use crate::band_reader::{Band, band_at};
 use crate::fault::TextKind;
 use crate::power_reader::power_at;
 use crate::rule_words::words_at;
-use freq_range::Rule;
+use freq_range::{Rule, RuleFlags};
 
 /// What the line of a rule says.
 #[derive(Clone, Copy)]
@@ -18,6 +18,21 @@ pub struct SpelledRule<'a> {
     pub name: Option<&'a [u8]>,
     /// Whether a file of version 20 has a bit for each flag.
     pub is_kept: bool,
+}
+
+/// The rule of a band, a power and flags.
+fn rule_from(band: Band, eirp_mbm: u16, flags: RuleFlags) -> Rule
+    ensures { result ≡ rule_from band eirp_mbm flags }
+{
+    Rule {
+        start_khz: band.start_khz,
+        end_khz: band.end_khz,
+        max_bw_khz: band.width_khz,
+        flags,
+        eirp_mbm,
+        cac_s: 0,
+        wmm: None,
+    }
 }
 
 /// What the line says, whether or not its flags are kept, or its first part that isn't of its form.
@@ -33,15 +48,7 @@ pub fn spelled_rule_of(line: &[u8]) -> Result<SpelledRule<'_>, TextKind>
     let Some(words) = words_at(rest) else {
         return Err(TextKind::BadFlag);
     };
-    let rule = Rule {
-        start_khz: band.start_khz,
-        end_khz: band.end_khz,
-        max_bw_khz: band.width_khz,
-        flags: words.flags,
-        eirp_mbm: power,
-        cac_s: 0,
-        wmm: None,
-    };
+    let rule = rule_from(band, power, words.flags);
     Ok(SpelledRule { rule, name: words.name, is_kept: words.is_kept })
 }
 

@@ -1,8 +1,8 @@
 //! Reads the words behind a power.
 
-ghost use Rattle.std.specs.Prelude.{◌≡◌, ◌↔◌, IsTrue, MatchOption};
+ghost use Rattle.std.specs.Prelude.{◌≡◌, MatchOption, Some};
 ghost use Rattle.std.specs.List.{list_all};
-ghost use Rattle.db_text.specs.Reading.{flag_of, gather_word, gathered, is_kept, is_name, is_name_byte, word_of, word_read, words_at};
+ghost use Rattle.db_text.specs.Reading.{flag_of, gather, gather_word, gathered, nothing_gathered, parts_of, is_kept, is_name, is_name_byte, word_of, word_read, words_at};
 ghost use Rattle.db_text.specs.Spelling.{with_flag};
 
 use crate::form::Flag;
@@ -27,6 +27,15 @@ pub struct RuleWords<'a> {
     pub name: Option<&'a [u8]>,
     /// Whether a file of version 20 has a bit for each flag.
     pub is_kept: bool,
+}
+
+impl RuleWords<'_> {
+    /// No word.
+    const NOTHING: RuleWords<'static> = RuleWords {
+        flags: RuleFlags::NONE,
+        name: None,
+        is_kept: true,
+    };
 }
 
 /// Whether the byte may stand in a name.
@@ -133,21 +142,30 @@ fn gather_word<'a>(word: Word<'a>, words: RuleWords<'a>) -> Option<RuleWords<'a>
     }
 }
 
-/// What the words say, each of which stands behind a comma.
-pub fn words_at(bytes: &[u8]) -> Option<RuleWords<'_>>
-    ensures { MatchOption result (words_at bytes.now ≡ None) (λ words. words_at bytes.now ≡ Some (gathered words)) }
+/// What the words of a list say, which are parted by commas.
+fn gather(list: &[u8]) -> Option<RuleWords<'_>>
+    ensures { MatchOption result (gather nothing_gathered (parts_of 44 (Some list.now)) ≡ None)
+        (λ words. gather nothing_gathered (parts_of 44 (Some list.now)) ≡ Some (gathered words)) }
 {
-    let mut words = RuleWords { flags: RuleFlags::NONE, name: None, is_kept: true };
-    let mut left = match bytes {
-        [] => None,
-        [b',', list @ ..] => Some(list),
-        _ => return None,
-    };
-    while let Some(list) = left {
-        let (part, rest) = cut_at(list, b',');
+    let mut words = RuleWords::NOTHING;
+    let mut left = Some(list);
+    while let Some(text) = left {
+        let (part, rest) = cut_at(text, b',');
         let word = word_of(part)?;
         words = gather_word(word, words)?;
         left = rest;
     }
     Some(words)
+}
+
+/// What the words say, each of which stands behind a comma.
+#[tactic(auto, unfolding(crate::specs::Reading::words_at, crate::specs::Reading::after_byte))]
+pub fn words_at(bytes: &[u8]) -> Option<RuleWords<'_>>
+    ensures { MatchOption result (words_at bytes.now ≡ None) (λ words. words_at bytes.now ≡ Some (gathered words)) }
+{
+    match bytes {
+        [] => Some(RuleWords::NOTHING),
+        [first, list @ ..] if *first == b',' => gather(list),
+        _ => None,
+    }
 }
