@@ -3,6 +3,7 @@
 ghost use Rattle.std.specs.Prelude.{◌≡◌};
 ghost use Rattle.db_text.specs.declared.fault.LineStop.TheVariants.{OutOfMemory};
 ghost use Rattle.db_text.specs.declared.fault.ParseFault.TheVariants.{OutOfMemory as ParseOutOfMemory};
+ghost use Rattle.db_text.specs.declared.fault.RuleTextFault.TheVariants.{Kind, OutOfMemory as NoMemory};
 
 use std::alloc::{AllocError, AllocFailed};
 use thiserror::Error;
@@ -99,6 +100,22 @@ pub enum RuleTextFault {
     /// No memory was found.
     #[error("no memory")]
     OutOfMemory,
+}
+
+impl From<TextKind> for RuleTextFault {
+    ghost from_gives = { λ kind fault. fault ≡ Kind kind };
+
+    fn from(kind: TextKind) -> RuleTextFault {
+        RuleTextFault::Kind(kind)
+    }
+}
+
+impl From<reg_base::OutOfMemory> for RuleTextFault {
+    ghost from_gives = { λ _ fault. fault ≡ NoMemory };
+
+    fn from(_error: reg_base::OutOfMemory) -> RuleTextFault {
+        RuleTextFault::OutOfMemory
+    }
 }
 
 /// Why a line isn't taken.

@@ -2,6 +2,7 @@
 #![tactic(auto)]
 
 mod assemble;
+mod band_reader;
 mod countries;
 mod country_header;
 mod fault;
@@ -9,10 +10,13 @@ mod form;
 mod late;
 mod lines;
 mod map_values;
+mod numbers;
 mod opening;
 mod parser;
+mod power_reader;
 mod rule_line;
 mod rule_reader;
+mod rule_words;
 mod scanner;
 mod text;
 mod wmm_reader;
