@@ -7,6 +7,7 @@ pub mod CountryLaws
 pub mod Cuts
 pub mod Decimals
 pub mod Digits
+pub mod EmptyLine
 pub mod Ended
 pub mod FormLaws
 pub mod Gathering
@@ -22,13 +23,18 @@ pub mod NamedBlocks
 pub mod Names
 pub mod Openings
 pub mod PowerTexts
+pub mod ReadSoFar
+pub mod Ready
 pub mod RuleLaws
 pub mod RuleTaken
 pub mod RuleTexts
+pub mod SmallPowers
 pub mod Solid
 pub mod Stops
 pub mod Taken
 pub mod Values
+pub mod WholeLine
+pub mod WholeText
 pub mod WmmLaws
 pub mod WordTexts
 pub mod Words

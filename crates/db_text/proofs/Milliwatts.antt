@@ -13,7 +13,7 @@ exponent p (suc k) some below = at (cases_lt p (10 ^ k)) (exponent p k some)
     at (inl less) h = h less
     at (inr least) h = let e = ten_more k in (k, least, omega (arith, below, e))
 
-powers : (m i : ℕ) → 10 ^ 12 ≤ m → m < 10 ^ 13 → (10 ^ 12 ≤ power m i) × (power m i < 10 ^ (13 + i))
+pub powers : (m i : ℕ) → 10 ^ 12 ≤ m → m < 10 ^ 13 → (10 ^ 12 ≤ power m i) × (power m i < 10 ^ (13 + i))
 powers m zero least most = rw (power-none m) (least, most)
 powers m (suc i) least most =
     let h = powers m i least most in

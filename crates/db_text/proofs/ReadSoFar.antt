@@ -1,0 +1,112 @@
+-- How far the lines of a text were read, and what a line that isn't taken means for the text.
+use Rattle.std.proofs.Common.{◌≡◌, ℕ, suc, ◌+◌, ◌<◌, ◌≤◌, List, [], ◌∷◌, ◌++◌, length, take, get_or, reverse, Option, Some, None, IfSome, MatchOption, Bor, arith, refl, sym, subst, ◌∙◌, ap, inl}
+use Rattle.std.specs.Option.{option_copied}
+use Rattle.std.proofs.lemmas.List.{append-nil, append_assoc, get_or_at, length-append, length-reverse, length_push, reverse-append, take-append-le, take_all}
+use Rattle.db_text.specs.declared.fault.LineStop.TheVariants.{Kind}
+use Rattle.db_text.specs.declared.fault.TextKind.{TextKind}
+use Rattle.db_text.specs.declared.parser.Parser.{Parser}
+use Rattle.db_text.specs.Faults.{AreAccepted, IsLineFault}
+use Rattle.db_text.specs.Forms.{Form}
+use Rattle.db_text.specs.Forms.Form.{Country, Empty, ItemLine, RuleLine, WmmHeader}
+use Rattle.db_text.specs.Lines.{lines_of}
+use Rattle.db_text.specs.State.{AreRead, AreSound, Stands, TakesLine}
+use Rattle.db_text.specs.TextOf.{IsFirstFault, IsTextFault}
+
+-- the lines of what is left of a text
+abbrev pub lines_left : Option (List ℕ) → List (List ℕ)
+lines_left None = []
+lines_left (Some rest) = lines_of rest
+
+-- how much is left: more than the bytes, since an empty rest is one line still
+abbrev pub size_left : Option (List ℕ) → ℕ
+size_left None = 0
+size_left (Some rest) = length rest + 1
+
+-- nothing is wrong with the lines seen, and the parser holds what they say
+pub record ReadSoFar (text : List ℕ) (left : Option (List ℕ)) (number : ℕ) (parser : Parser) : Type 0 where
+  pub seen : List (List ℕ)
+  pub forms : List Form
+  pub lines : lines_of text ≡ seen ++ lines_left left
+  pub count : length seen ≡ number
+  pub accepted : AreAccepted (reverse seen) forms
+  pub stands : Stands forms parser
+  pub bound : number + size_left left ≤ length text + 1
+
+pub read_nothing : (text : List ℕ) (parser : Parser) → Stands [] parser → ReadSoFar text (Some text) 0 parser
+read_nothing text parser stands = record {
+  seen = [];
+  forms = [];
+  lines = refl;
+  count = refl;
+  accepted = tt;
+  stands = stands;
+  bound = omega arith;
+}
+
+pub length_accepted : (lines : List (List ℕ)) (forms : List Form) → AreAccepted lines forms → length lines ≡ length forms
+length_accepted [] [] accepted = refl
+length_accepted [] (form ∷ above) accepted = absurd accepted
+length_accepted (line ∷ lines) [] accepted = absurd accepted
+length_accepted (line ∷ lines) (form ∷ above) accepted = ap suc (length_accepted lines above accepted.0)
+
+-- the codes of accepted headers are codes
+pub accepted_sound : (lines : List (List ℕ)) (forms : List Form) → AreAccepted lines forms → AreSound forms
+accepted_sound [] [] accepted = tt
+accepted_sound [] (form ∷ above) accepted = absurd accepted
+accepted_sound (line ∷ lines) [] accepted = absurd accepted
+accepted_sound (line ∷ lines) (Empty ∷ above) accepted = accepted_sound lines above accepted.0
+accepted_sound (line ∷ lines) (Country cs region ∷ above) accepted = let good = accepted.1 in (accepted_sound lines above accepted.0, good.is.are)
+accepted_sound (line ∷ lines) (WmmHeader name ∷ above) accepted = accepted_sound lines above accepted.0
+accepted_sound (line ∷ lines) (ItemLine item e ∷ above) accepted = accepted_sound lines above accepted.0
+accepted_sound (line ∷ lines) (RuleLine rule name ∷ above) accepted = accepted_sound lines above accepted.0
+
+pub sound_so_far : (text : List ℕ) (left : Option (List ℕ)) (number : ℕ) (parser : Parser) (so_far : ReadSoFar text left number parser) → AreSound so_far.forms
+sound_so_far text left number parser so_far = accepted_sound (reverse so_far.seen) so_far.forms so_far.accepted
+
+pub count_so_far : (text : List ℕ) (left : Option (List ℕ)) (number : ℕ) (parser : Parser) (so_far : ReadSoFar text left number parser) → number + 1 ≡ length so_far.forms + 1
+count_so_far text left number parser so_far =
+    ap (λ n. n + 1) (sym so_far.count ∙ sym (length-reverse so_far.seen) ∙ length_accepted (reverse so_far.seen) so_far.forms so_far.accepted)
+
+-- one line more was taken
+pub read_more : (text bytes line : List ℕ) (rest : Option (List ℕ)) (number : ℕ) (old new : Parser) (so_far : ReadSoFar text (Some bytes) number old)
+    → lines_of bytes ≡ line ∷ lines_left rest → size_left rest < length bytes + 1 → TakesLine so_far.forms line new → ReadSoFar text rest (number + 1) new
+read_more text bytes line rest number old new so_far cut shorter takes = record {
+  seen = so_far.seen ++ line ∷ [];
+  forms = takes.form ∷ so_far.forms;
+  lines = so_far.lines ∙ ap (λ ls. so_far.seen ++ ls) cut ∙ sym (append_assoc so_far.seen (line ∷ []) (lines_left rest));
+  count = length_push so_far.seen line ∙ ap (λ n. n + 1) so_far.count;
+  accepted = rw (reverse-append so_far.seen (line ∷ [])) (so_far.accepted, takes.good);
+  stands = takes.stands;
+  bound = let bound = so_far.bound in omega arith;
+}
+
+pub read_all : (text : List ℕ) (number : ℕ) (parser : Parser) → ReadSoFar text None number parser → AreRead text parser
+read_all text number parser so_far = record {
+  forms = so_far.forms;
+  accepted = rw (so_far.lines, append-nil so_far.seen) so_far.accepted;
+  stands = so_far.stands;
+}
+
+-- a line that isn't taken is the text's first faulty line
+pub not_taken : (text bytes line : List ℕ) (rest : List (List ℕ)) (number : ℕ) (parser : Parser) (kind : TextKind) (so_far : ReadSoFar text (Some bytes) number parser)
+    → lines_of bytes ≡ line ∷ rest → IsLineFault so_far.forms line kind → IsTextFault text (record { line = number + 1; kind = kind })
+not_taken text bytes line rest number parser kind so_far cut fault =
+    let lines : lines_of text ≡ so_far.seen ++ line ∷ rest = so_far.lines ∙ ap (λ ls. so_far.seen ++ ls) cut in
+    let len = length-append so_far.seen (line ∷ rest) in
+    let count = so_far.count in
+    (number, refl, inl (record {
+      in_range = rw lines (omega (arith, len, count));
+      above = so_far.forms;
+      accepted = rw (lines, take-append-le number so_far.seen (line ∷ rest) (omega (arith, count)), take_all number so_far.seen (omega (arith, count))) so_far.accepted;
+      fault = rw (lines, get_or_at so_far.seen line rest [] number count) fault;
+    }))
+
+-- what a cut leaves, whether or not a newline ended the line
+pub cut_lines : (text line : List ℕ) (rest : Option (Bor (List ℕ))) → MatchOption rest (lines_of text ≡ line ∷ []) (λ r. lines_of text ≡ line ∷ lines_of r.now)
+    → lines_of text ≡ line ∷ lines_left (option_copied rest)
+cut_lines text line None cut = cut
+cut_lines text line (Some r) cut = cut
+
+pub cut_shorter : (text : List ℕ) (rest : Option (Bor (List ℕ))) → IfSome rest (λ r. length r.now < length text) → size_left (option_copied rest) < length text + 1
+cut_shorter text None shorter = omega arith
+cut_shorter text (Some r) shorter = omega arith
