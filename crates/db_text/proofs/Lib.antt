@@ -3,6 +3,8 @@ pub mod FormLaws
 pub mod LineForms
 pub mod LineLaws
 pub mod NamedBlocks
+pub mod OneAnswer
 pub mod RuleLaws
 pub mod Stops
+pub mod Unique
 pub mod WmmLaws

@@ -5,6 +5,7 @@ mod countries;
 mod country_header;
 mod fault;
 mod form;
+mod laws;
 mod lines;
 mod opening;
 mod parser;
@@ -15,4 +16,5 @@ mod wmm_reader;
 mod wmm_rules;
 
 pub use fault::{ParseFault, RuleTextFault, TextFault, TextKind};
+pub use laws::one_answer;
 pub use rule_line::parse_rule;
