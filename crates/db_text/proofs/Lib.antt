@@ -1,4 +1,7 @@
+pub mod Contexts
 pub mod CountryLaws
+pub mod Deciding
+pub mod EqualRules
 pub mod FormLaws
 pub mod LineForms
 pub mod LineLaws

@@ -82,18 +82,15 @@ first_fault-unique text j k a b p q = elim (cases_order j k) [
   | inr (inr higher) ↦ absurd (not_accepted text k j b p.above q higher (let r = p.in_range in omega (arith, r)) p.accepted)
 ]
 
+header_apart : (name : List ℕ) (cs : List Alpha2) (region : Region) → WmmHeader name ≡ Country cs region → ⊥
+header_apart name cs region e = cc
+
 -- a header is left short in one manner
 short_kind : (forms : List Form) (k : ℕ) (a b : TextKind) → IsShortAt forms k a → IsShortAt forms k b → a ≡ b
 short_kind forms k WmmShort WmmShort p q = refl
 short_kind forms k NoRules NoRules p q = refl
 short_kind forms k WmmShort NoRules p q = absurd (header_apart p.0 q.0 q.1 (same_Some (WmmHeader p.0) (Country q.0 q.1) (sym p.1 ∙ q.2)))
-  where
-    header_apart : (name : List ℕ) (cs : List Alpha2) (region : Region) → WmmHeader name ≡ Country cs region → ⊥
-    header_apart name cs region e = cc
 short_kind forms k NoRules WmmShort p q = absurd (header_apart q.0 p.0 p.1 (same_Some (WmmHeader q.0) (Country p.0 p.1) (sym q.1 ∙ p.2)))
-  where
-    header_apart : (name : List ℕ) (cs : List Alpha2) (region : Region) → WmmHeader name ≡ Country cs region → ⊥
-    header_apart name cs region e = cc
 short_kind forms k WmmShort b p q = absurd q
 short_kind forms k NoRules b p q = absurd q
 short_kind forms k a b p q = absurd p
