@@ -3,6 +3,7 @@ pub mod CountryLaws
 pub mod Deciding
 pub mod EqualRules
 pub mod FormLaws
+pub mod Judged
 pub mod LineForms
 pub mod LineLaws
 pub mod NamedBlocks

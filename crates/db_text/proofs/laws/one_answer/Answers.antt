@@ -1,4 +1,4 @@
-use Rattle.db_text.proofs.Contexts.{told_contradicted}
+use Rattle.db_text.proofs.Judged.{judge}
 use Rattle.db_text.proofs.OneAnswer.{TextOf-unique, TextOf-no_fault, IsTextFault-unique}
 use Rattle.db_text.proofs.laws.one_answer.Goals as goal
 
