@@ -1,3 +1,4 @@
+pub mod Built
 pub mod Contexts
 pub mod CountryLaws
 pub mod Deciding
@@ -10,5 +11,7 @@ pub mod NamedBlocks
 pub mod OneAnswer
 pub mod RuleLaws
 pub mod Stops
+pub mod Total
 pub mod Unique
+pub mod ValidRules
 pub mod WmmLaws
