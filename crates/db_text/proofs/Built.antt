@@ -1,5 +1,5 @@
 -- Accepted lines that leave no header short stand for a database.
-use Rattle.std.proofs.Common.{◌≡◌, ◌≢◌, ℕ, zero, suc, ◌+◌, ◌*◌, ◌/◌, ◌%◌, ◌<◌, ◌≤◌, ◌⊎◌, Bool, true, false, List, [], ◌∷◌, ◌++◌, length, get_or, All, AllPairs, Contains, Option, Some, None, IfSome, option_map, arith, refl, sym, subst, ◌∙◌, ap, inl, inr, if◌then◌else◌}
+use Rattle.std.proofs.Common.{◌≡◌, ◌≢◌, ℕ, zero, suc, ◌/◌, ◌%◌, ◌<◌, ◌⊎◌, true, false, List, [], ◌∷◌, ◌++◌, length, get_or, All, AllPairs, Contains, Option, Some, None, IfSome, option_map, arith, refl, sym, subst, ◌∙◌, ap, inl, inr}
 use Rattle.std.proofs.lemmas.Bool.{cases_Bool, cases_eq}
 use Rattle.std.proofs.lemmas.List.Elements.{All-contains, All-nil, All-push, All-weaker, Contains-append_left, Contains-get_or, Contains-push}
 use Rattle.std.proofs.lemmas.List.Quantifiers.{all_pairs_push}
@@ -9,7 +9,7 @@ use Rattle.freq_range.specs.declared.rule.Rule.{Rule}
 use Rattle.freq_range.specs.declared.wmm.Wmm.{Wmm}
 use Rattle.rule_tables.proofs.Dropped.{DropsRepeats-keeps, DropsRepeats-only}
 use Rattle.rule_tables.specs.Code.{IsCode, key}
-use Rattle.rule_tables.specs.Databases.{HasCode, IsDb, IsDomain}
+use Rattle.rule_tables.specs.Databases.{HasCode, IsDomain}
 use Rattle.rule_tables.specs.Domains.{AreRules}
 use Rattle.rule_tables.specs.FileFormat.{DropsRepeats}
 use Rattle.rule_tables.specs.declared.code.Alpha2.{Alpha2}
@@ -27,7 +27,7 @@ use Rattle.db_text.proofs.Contexts.{told_named, told_wmm}
 use Rattle.db_text.proofs.EqualRules.{dropped, dropped_distinct}
 use Rattle.db_text.proofs.FormLaws.{form_at_more, form_at_top, same_header}
 use Rattle.db_text.proofs.Unique.{sound_from_accepted}
-use Rattle.db_text.proofs.ValidRules.{IsEnded, IsSoundRule, few_rules, rules_sound}
+use Rattle.db_text.proofs.ValidRules.{IsEnded, few_rules, rules_sound}
 use Rattle.db_text.proofs.WmmLaws.{same_name-true}
 
 -- ---- headers

@@ -1,8 +1,7 @@
 -- What can be told of the lines above one.
-use Rattle.std.proofs.Common.{◌≡◌, ◌≢◌, ℕ, ◌<◌, ◌≤◌, ◌⊎◌, List, [], ◌∷◌, length, Contains, Option, Some, None, refl, sym, subst, ◌∙◌, ap, inl, inr}
+use Rattle.std.proofs.Common.{◌≡◌, ◌≢◌, ℕ, ◌<◌, ◌⊎◌, List, length, Contains, Option, Some, None, refl, sym, subst, ◌∙◌, inl, inr}
 use Rattle.std.proofs.lemmas.Option.{none-some, same_Some}
 use Rattle.freq_range.specs.Valid.{IsValidEntry, IsValidWmm}
-use Rattle.freq_range.specs.declared.rule.Rule.{Rule}
 use Rattle.freq_range.specs.declared.wmm.Wmm.{Wmm}
 use Rattle.freq_range.specs.declared.wmm.WmmEntry.{WmmEntry}
 use Rattle.rule_tables.proofs.Dropped.{DropsRepeats-unique}

@@ -1,5 +1,5 @@
 -- Each line either is good, with some form, or has a fault: the first kind that applies.
-use Rattle.std.proofs.Common.{◌≡◌, ◌≢◌, ℕ, ◌+◌, ◌<◌, ◌≤◌, ◌⊎◌, Bool, true, false, List, [], ◌∷◌, ◌++◌, length, All, Contains, Option, Some, None, IsUtf8, arith, refl, sym, subst, ◌∙◌, ap, append_assoc, inl, inr}
+use Rattle.std.proofs.Common.{◌≡◌, ◌≢◌, ℕ, ◌<◌, ◌⊎◌, List, [], ◌∷◌, ◌++◌, length, All, Contains, Option, Some, None, IsUtf8, arith, refl, sym, subst, ◌∙◌, ap, append_assoc, inl, inr}
 use Rattle.std.specs.Str.{is_utf8}
 use Rattle.std.proofs.lemmas.Bool.{cases_Bool}
 use Rattle.std.proofs.lemmas.Option.{none-some}
@@ -11,18 +11,18 @@ use Rattle.freq_range.specs.declared.wmm.WmmEntry.{WmmEntry}
 use Rattle.rule_tables.specs.declared.code.Alpha2.{Alpha2}
 use Rattle.rule_tables.specs.declared.code.Region.{Region}
 use Rattle.db_text.specs.declared.fault.TextKind.{TextKind}
-use Rattle.db_text.specs.declared.fault.TextKind.TheVariants.{LineTooLong, NotUtf8, BadLine, NoBlock, BadCountry, BadRegion, RegionDiffers, BadBand, BadPower, BadFlag, FlagNotInVersion, NoWmm, BadWmm, WmmTwice, TooManyRules, WmmShort, NoRules}
+use Rattle.db_text.specs.declared.fault.TextKind.TheVariants.{LineTooLong, NotUtf8, BadLine, NoBlock, BadCountry, BadRegion, RegionDiffers, BadBand, BadPower, BadFlag, FlagNotInVersion, NoWmm, BadWmm, WmmTwice, TooManyRules}
 use Rattle.db_text.specs.declared.form.Item.{Item}
 use Rattle.db_text.specs.declared.form.Item.TheVariants.{VoC, ViC, BeC, BkC, VoAp, ViAp, BeAp, BkAp}
 use Rattle.db_text.specs.declared.form.Opening.{Opening}
 use Rattle.db_text.specs.declared.form.Opening.TheVariants.{Country as OfCountry, Wmm as OfWmm, Rule as OfRule, Item as OfItem}
-use Rattle.db_text.specs.Faults.{Applies, HasItem, HasTooMany, HasUnkeptFlag, IsContradicted, IsGoodLine, IsInCountries, IsInWmm, IsLineFault, IsWrong, LacksBand, LacksPower, LacksWords, MakesTooMany, NamesNoWmm, place_of_kind}
+use Rattle.db_text.specs.Faults.{Applies, HasItem, HasTooMany, HasUnkeptFlag, IsContradicted, IsGoodLine, IsInCountries, IsInWmm, IsLineFault, IsWrong, LacksBand, LacksPower, MakesTooMany, NamesNoWmm, place_of_kind}
 use Rattle.db_text.specs.Forms.{Form, IsForm, block_of, wmm_of}
 use Rattle.db_text.specs.Forms.Block.{OfCountries}
 use Rattle.db_text.specs.Forms.Form.{Country, Empty, ItemLine, RuleLine, WmmHeader}
 use Rattle.db_text.specs.Lines.{bare}
 use Rattle.db_text.specs.Reading.{IsHeaderKind, IsRuleKind}
-use Rattle.db_text.specs.Spelling.{BeginsWithBand, BeginsWithPower, HasCodes, IsHeader, IsItemLine, IsKeptWord, IsRuleLine, IsSpelledRule, IsWmmHeader, Opens, RuleText, band_text, list_of, names_in, power_part, region_name, words_text}
+use Rattle.db_text.specs.Spelling.{BeginsWithBand, BeginsWithPower, IsHeader, IsItemLine, IsKeptWord, IsRuleLine, IsSpelledRule, IsWmmHeader, Opens, RuleText, band_text, list_of, names_in, power_part, region_name, words_text}
 use Rattle.db_text.specs.State.{IsBareFault}
 use Rattle.db_text.proofs.Contexts.{same_codes_block, told_contradicted, told_has_item, told_in_countries, told_in_wmm, told_too_many}
 use Rattle.db_text.proofs.Deciding.{Told, told_any, told_lt}

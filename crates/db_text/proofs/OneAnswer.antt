@@ -1,10 +1,9 @@
 -- A text has at most one of a database and a fault.
-use Rattle.std.proofs.Common.{◌≡◌, ℕ, ◌+◌, ◌<◌, ◌≤◌, ◌⊎◌, List, [], length, take, reverse, Contains, Option, Some, arith, refl, sym, ◌∙◌, ap, subst, inl, inr}
+use Rattle.std.proofs.Common.{◌≡◌, ℕ, ◌+◌, ◌<◌, ◌≤◌, ◌⊎◌, List, length, take, reverse, Contains, arith, refl, sym, ◌∙◌, ap, subst, inl, inr}
 use Rattle.std.proofs.lemmas.Bool.{cases_order}
 use Rattle.std.proofs.lemmas.List.{take_all}
 use Rattle.std.proofs.lemmas.List.Elements.{All-contains}
 use Rattle.std.proofs.lemmas.Option.{same_Some}
-use Rattle.freq_range.specs.declared.rule.Rule.{Rule}
 use Rattle.rule_tables.specs.declared.code.Alpha2.{Alpha2}
 use Rattle.rule_tables.specs.declared.code.Region.{Region}
 use Rattle.rule_tables.specs.declared.domain.Domain.{Domain}
@@ -14,9 +13,9 @@ use Rattle.rule_tables.proofs.Ascending.{same_from_elements}
 use Rattle.rule_tables.proofs.Dropped.{DropsRepeats-unique}
 use Rattle.db_text.specs.declared.fault.TextFault.{TextFault}
 use Rattle.db_text.specs.declared.fault.TextKind.{TextKind}
-use Rattle.db_text.specs.declared.fault.TextKind.TheVariants.{LineTooLong, NotUtf8, BadLine, NoBlock, BadCountry, BadRegion, RegionDiffers, BadBand, BadPower, BadFlag, FlagNotInVersion, NoWmm, BadWmm, WmmTwice, TooManyRules, WmmShort, NoRules}
+use Rattle.db_text.specs.declared.fault.TextKind.TheVariants.{WmmShort, NoRules}
 use Rattle.db_text.specs.Faults.{AreAccepted, IsLineFault}
-use Rattle.db_text.specs.Forms.{Form, Names, form_at, rules_of}
+use Rattle.db_text.specs.Forms.{Form, Names, rules_of}
 use Rattle.db_text.specs.Forms.Form.{Country, WmmHeader}
 use Rattle.db_text.specs.Lines.{lines_of}
 use Rattle.db_text.specs.TextOf.{IsDomainOf, IsFirstFault, IsFirstShort, IsShortAt, IsTextFault, StandsFor, TextOf}

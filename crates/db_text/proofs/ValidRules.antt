@@ -1,5 +1,5 @@
 -- The rules of accepted lines: at most 128 of a code, and each valid where its WMM rule is.
-use Rattle.std.proofs.Common.{◌≡◌, ◌≢◌, ℕ, zero, suc, ◌+◌, ◌*◌, ◌/◌, ◌^◌, ◌<◌, ◌≤◌, ◌⊎◌, Bool, true, false, List, [], ◌∷◌, length, Contains, Option, Some, None, IfSome, option_map, arith, add-one, refl, sym, subst, ◌∙◌, ap, inl, inr, if◌then◌else◌}
+use Rattle.std.proofs.Common.{◌≡◌, ℕ, zero, suc, ◌+◌, ◌*◌, ◌/◌, ◌^◌, ◌<◌, ◌≤◌, ◌⊎◌, Bool, true, false, List, [], ◌∷◌, length, Contains, Option, Some, None, IfSome, arith, add-one, refl, sym, subst, ◌∙◌, ap, inl, inr, if◌then◌else◌}
 use Rattle.std.proofs.lemmas.Bool.{cases_Bool, cases_lt}
 use Rattle.std.proofs.lemmas.Option.{none-some}
 use Rattle.freq_range.proofs.Members.{Contains-cases, Contains-nothing}
@@ -12,7 +12,7 @@ use Rattle.rule_tables.specs.FileFormat.{DropsRepeats}
 use Rattle.rule_tables.specs.declared.code.Alpha2.{Alpha2}
 use Rattle.db_text.specs.declared.fault.TextKind.TheVariants.{NoBlock, TooManyRules, WmmTwice}
 use Rattle.db_text.specs.Faults.{AreAccepted, IsGoodLine}
-use Rattle.db_text.specs.Forms.{Block, Form, block_of, is_of_code, is_of_name, named_wmm, rules_of, same_name, with_named, wmm_of}
+use Rattle.db_text.specs.Forms.{Block, Form, block_of, is_of_code, is_of_name, named_wmm, rules_of, with_named, wmm_of}
 use Rattle.db_text.specs.Forms.Block.{NoBlock as NoHeader, OfCountries, OfName}
 use Rattle.db_text.specs.Forms.Form.{Country, Empty, ItemLine, RuleLine, WmmHeader}
 use Rattle.db_text.specs.Lines.{bare}
