@@ -214,9 +214,9 @@ named_country forms code None region is named = absurd (is region named)
 named_country forms code (Some kept) region is named = (kept, refl, is)
 
 -- a header whose countries are kept isn't contradicted
-pub uncontradicted : (cs : List Alpha2) (region : Region) (above : List Form) (countries : Countries) → All IsCode cs → AreCountries (Country cs region ∷ above) countries
+pub uncontradicted : (cs : List Alpha2) (region : Region) (above : List Form) (countries : Countries) → AreCountries (Country cs region ∷ above) countries
     → ((code : Alpha2) → Contains cs code → IsCode code) → IsContradicted above cs region → ⊥
-uncontradicted cs region above countries codes are is_code (code, other, has, named, apart) =
+uncontradicted cs region above countries are is_code (code, other, has, named, apart) =
     let forms = Country cs region ∷ above in
     let top = Names-top cs region above code has in
     let kept = named_country forms code (country_of countries code) region (are.each code (is_code code has)) top in

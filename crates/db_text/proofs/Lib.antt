@@ -4,13 +4,16 @@ pub mod CountryLaws
 pub mod Deciding
 pub mod EqualRules
 pub mod FormLaws
+pub mod HeaderTaken
 pub mod Judged
 pub mod LineForms
 pub mod LineLaws
 pub mod NamedBlocks
 pub mod OneAnswer
 pub mod RuleLaws
+pub mod RuleTaken
 pub mod Stops
+pub mod Taken
 pub mod Total
 pub mod Unique
 pub mod ValidRules

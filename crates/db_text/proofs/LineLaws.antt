@@ -1,14 +1,15 @@
 -- Which kinds may apply to a line, by how it opens.
-use Rattle.std.proofs.Common.{◌≡◌, ◌≢◌, ℕ, ◌<◌, List, [], arith, ap, inl, inr}
+use Rattle.std.proofs.Common.{◌≡◌, ◌≢◌, ℕ, ◌<◌, ◌⊎◌, List, [], arith, ap, subst, inl, inr}
 use Rattle.rule_tables.specs.declared.code.Alpha2.{Alpha2}
 use Rattle.db_text.specs.declared.fault.TextKind.{TextKind}
 use Rattle.db_text.specs.declared.fault.TextKind.TheVariants.{LineTooLong, NotUtf8, BadLine, NoBlock, BadCountry, BadRegion, RegionDiffers, BadBand, BadPower, BadFlag, FlagNotInVersion, NoWmm, BadWmm, WmmTwice, TooManyRules, WmmShort, NoRules}
 use Rattle.db_text.specs.declared.form.Item.{Item}
 use Rattle.db_text.specs.declared.form.Opening.{Opening}
 use Rattle.db_text.specs.declared.form.Opening.TheVariants.{Country as OfCountry, Wmm as OfWmm, Rule as OfRule, Item as OfItem}
-use Rattle.db_text.specs.Faults.{IsWrong, place_of_kind}
+use Rattle.freq_range.specs.declared.wmm.WmmEntry.{WmmEntry}
+use Rattle.db_text.specs.Faults.{HasItem, IsInCountries, IsInWmm, IsWrong, place_of_kind}
 use Rattle.db_text.specs.Forms.{Form}
-use Rattle.db_text.specs.Spelling.{Opens, region_name}
+use Rattle.db_text.specs.Spelling.{IsItemLine, IsWmmHeader, Opens, region_name}
 use Rattle.db_text.proofs.LineForms.{HasCodes-opens, IsSpelledRule-opens, IsWmmHeader-opens, Opens-unique}
 
 -- an opening, as a number that tells the four apart
@@ -123,3 +124,26 @@ place_below NoRules = omega arith
 -- nothing is wrong where each kind is denied
 pub good : (above : List Form) (line : List ℕ) → ((kind : TextKind) → Denies above line 18 kind) → (kind : TextKind) → IsWrong above line kind → ⊥
 good above line denied kind wrong = denied kind (place_below kind) wrong
+
+-- ---- what `NoBlock` and `BadWmm` say of a line that opens so
+
+pub wmm_header_wrong : (above : List Form) (line : List ℕ) → Opens line OfWmm → IsWrong above line BadWmm → (name : List ℕ) → IsWmmHeader line name → ⊥
+wmm_header_wrong above line opens (inl wrong) = wrong.1
+wmm_header_wrong above line opens (inr wrong) = absurd (apart line OfWmm (OfItem wrong.0) opens wrong.1 (λ e. omega (arith, e)))
+
+same_item : (line : List ℕ) (item other : Item) → Opens line (OfItem item) → Opens line (OfItem other) → other ≡ item
+same_item line item other a b = let e = Opens-unique line (OfItem other) (OfItem item) b a in cc
+
+pub item_wrong : (above : List Form) (line : List ℕ) (item : Item) → Opens line (OfItem item) → IsWrong above line BadWmm
+    → ((e : WmmEntry) → IsItemLine line item e → ⊥) ⊎ HasItem above item
+item_wrong above line item opens (inl wrong) = absurd (apart line (OfItem item) OfWmm opens wrong.0 (λ e. omega (arith, e)))
+item_wrong above line item opens (inr wrong) =
+    subst (λ i. ((e : WmmEntry) → IsItemLine line i e → ⊥) ⊎ HasItem above i) (same_item line item wrong.0 opens wrong.1) wrong.2
+
+pub item_outside : (above : List Form) (line : List ℕ) (item : Item) → Opens line (OfItem item) → IsWrong above line NoBlock → IsInWmm above → ⊥
+item_outside above line item opens (inl wrong) = absurd (apart line (OfItem item) OfRule opens wrong.0 (λ e. omega (arith, e)))
+item_outside above line item opens (inr wrong) = wrong.2
+
+pub rule_outside : (above : List Form) (line : List ℕ) → Opens line OfRule → IsWrong above line NoBlock → IsInCountries above → ⊥
+rule_outside above line opens (inl wrong) = wrong.1
+rule_outside above line opens (inr wrong) = absurd (apart line OfRule (OfItem wrong.0) opens wrong.1 (λ e. omega (arith, e)))
