@@ -54,7 +54,8 @@ named_at (WmmHeader other ∷ above) name some = by_test (cases_Bool (same_name 
         (there.0, form_at_more (WmmHeader name) (WmmHeader other) above there.0 there.1)
 named_at (ItemLine item e ∷ above) name some = by_test (cases_Bool (is_of_name name (block_of above))) (named_at above name)
   where
-    by_test : (is_of_name name (block_of above) ≡ true) ⊎ (is_of_name name (block_of above) ≡ false) → (wmm_of name above ≢ None → (k : ℕ) × (form_at above k ≡ Some (WmmHeader name)))
+    by_test : (is_of_name name (block_of above) ≡ true) ⊎ (is_of_name name (block_of above) ≡ false)
+        → (wmm_of name above ≢ None → (k : ℕ) × (form_at above k ≡ Some (WmmHeader name)))
         → (k : ℕ) × (form_at (ItemLine item e ∷ above) k ≡ Some (WmmHeader name))
     by_test (inl here) rest =
         let there = rest (λ none. some (rw here (ap (option_map (with_entry item e)) none))) in
@@ -186,7 +187,8 @@ none_below forms = record {
 }
 
 -- no header names the next code
-unnamed_next : (forms : List Form) (n : ℕ) (ds : List Domain) → AreSound forms → ((r : Region) → Names forms (code_at n) r → ⊥) → IsBelow forms n ds → IsBelow forms (suc n) ds
+unnamed_next : (forms : List Form) (n : ℕ) (ds : List Domain) → AreSound forms → ((r : Region) → Names forms (code_at n) r → ⊥)
+    → IsBelow forms n ds → IsBelow forms (suc n) ds
 unnamed_next forms n ds sound none is = record {
   ascending = is.ascending;
   domains = is.domains;
@@ -199,7 +201,8 @@ unnamed_next forms n ds sound none is = record {
 }
 
 -- a header names the next code
-named_next : (forms : List Form) (n : ℕ) (ds : List Domain) (d : Domain) → AreSound forms → IsDomainFor forms (code_at n) d → IsBelow forms n ds → IsBelow forms (suc n) (ds ++ d ∷ [])
+named_next : (forms : List Form) (n : ℕ) (ds : List Domain) (d : Domain) → AreSound forms → IsDomainFor forms (code_at n) d
+    → IsBelow forms n ds → IsBelow forms (suc n) (ds ++ d ∷ [])
 named_next forms n ds d sound for is =
     let at : key d.alpha2 ≡ n = ap key for.code_is ∙ omega arith in
     let wider = All-weaker (λ e. key e.alpha2 < n) (λ e. key e.alpha2 < suc n) (λ e less. omega (arith, less)) ds is.below in
@@ -235,10 +238,12 @@ key_below c (inr zeros) = let a = zeros.0 in let b = zeros.1 in omega (arith, a,
 pub stands_for_some : (lines : List (List ℕ)) (forms : List Form) → IsWhole lines forms → (ds : List Domain) × StandsFor forms ds
 stands_for_some lines forms whole =
     let built = domains_below lines forms whole 65536 in
-    let is = built.1 in
-    (built.0, record {
-      db = record { ascending = is.ascending; each = is.domains };
-      each = is.each;
-      all = λ code region named. is.all code region named (key_below code (sound_code forms code region (sound_from_accepted lines forms whole.accepted) named));
-      none_short = whole.none_short;
-    })
+    let is = built.1 in (
+      built.0,
+      record {
+        db = record { ascending = is.ascending; each = is.domains };
+        each = is.each;
+        all = λ code region named. is.all code region named (key_below code (sound_code forms code region (sound_from_accepted lines forms whole.accepted) named));
+        none_short = whole.none_short;
+      },
+    )

@@ -32,8 +32,14 @@ told_two d e = told_both (told_entry d) (told_entry e)
 pub told_wmm : (w : Wmm) → Told (IsValidWmm w)
 told_wmm w = told_as
     (λ t. record {
-      vo_c = t.0.0.0; vi_c = t.0.0.1; be_c = t.0.1.0; bk_c = t.0.1.1;
-      vo_ap = t.1.0.0; vi_ap = t.1.0.1; be_ap = t.1.1.0; bk_ap = t.1.1.1;
+      vo_c = t.0.0.0;
+      vi_c = t.0.0.1;
+      be_c = t.0.1.0;
+      bk_c = t.0.1.1;
+      vo_ap = t.1.0.0;
+      vi_ap = t.1.0.1;
+      be_ap = t.1.1.0;
+      bk_ap = t.1.1.1;
     })
     (λ v. (((v.vo_c, v.vi_c), (v.be_c, v.bk_c)), ((v.vo_ap, v.vi_ap), (v.be_ap, v.bk_ap))))
     (told_both (told_both (told_two w.vo_c w.vi_c) (told_two w.be_c w.bk_c)) (told_both (told_two w.vo_ap w.vi_ap) (told_two w.be_ap w.bk_ap)))
@@ -128,9 +134,9 @@ told_other r s = elim (cases_region r s) [
 pub told_contradicted : (above : List Form) (cs : List Alpha2) (region : Region) → Told (IsContradicted above cs region)
 told_contradicted above cs region =
     elim (told_any (λ code. (other : Region) × Names above code other × (other ≢ region)) (λ code. elim (named_with above code (λ r. r ≢ region) (λ r. told_other r region)) [
-        | inl found ↦ inl found
-        | inr none ↦ inr (λ n. none n.0 n.1 n.2)
-      ]) cs) [
+      | inl found ↦ inl found
+      | inr none ↦ inr (λ n. none n.0 n.1 n.2)
+    ]) cs) [
       | inl found ↦ inl (found.0, found.2.0, found.1, found.2.1, found.2.2)
       | inr none ↦ inr (λ c. none c.0 c.2 (c.1, c.3, c.4))
     ]

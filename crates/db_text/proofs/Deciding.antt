@@ -44,9 +44,9 @@ told_any P tell (y ∷ ys) = elim (tell y) [
   | inr never ↦ elim (told_any P tell ys) [
     | inl later ↦ inl (later.0, Contains-later y ys later.0 later.1, later.2)
     | inr none ↦ inr (λ x has p. elim (Contains-cases y ys x has) [
-        | inl here ↦ never (subst P (sym here) p)
-        | inr later ↦ none x later p
-      ])
+      | inl here ↦ never (subst P (sym here) p)
+      | inr later ↦ none x later p
+    ])
   ]
 ]
 

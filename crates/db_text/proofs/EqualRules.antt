@@ -27,8 +27,14 @@ tells_four = tells_pair (tells_pair tells_entry tells_entry) (tells_pair tells_e
 pub tells_wmm : Tells Wmm
 tells_wmm = tells_through {A = Wmm} {B = Four × Four} (λ w. (((w.vo_c, w.vi_c), (w.be_c, w.bk_c)), ((w.vo_ap, w.vi_ap), (w.be_ap, w.bk_ap))))
     (λ t. record {
-      vo_c = t.0.0.0; vi_c = t.0.0.1; be_c = t.0.1.0; bk_c = t.0.1.1;
-      vo_ap = t.1.0.0; vi_ap = t.1.0.1; be_ap = t.1.1.0; bk_ap = t.1.1.1;
+      vo_c = t.0.0.0;
+      vi_c = t.0.0.1;
+      be_c = t.0.1.0;
+      bk_c = t.0.1.1;
+      vo_ap = t.1.0.0;
+      vi_ap = t.1.0.1;
+      be_ap = t.1.1.0;
+      bk_ap = t.1.1.1;
     }) (λ w. refl) (tells_pair tells_four tells_four)
 
 pub tells_flags : Tells RuleFlags
@@ -57,4 +63,4 @@ dropped_distinct [] kept drops = subst AreDistinct (sym drops) (λ i j d less in
 dropped_distinct (rule ∷ earlier) kept (rest, before, inl same) = subst AreDistinct (sym same.1) (dropped_distinct earlier rest before)
 dropped_distinct (rule ∷ earlier) kept (rest, before, inr added) =
     subst AreDistinct (sym added.1) (all_pairs_push (λ r s. r ≢ s) rest rule (dropped_distinct earlier rest before)
-        (λ k d in_range same. added.0 (subst (Contains earlier) same (DropsRepeats-only earlier rest (get_or rest k d) before (Contains-get_or rest k d in_range)))))
+    (λ k d in_range same. added.0 (subst (Contains earlier) same (DropsRepeats-only earlier rest (get_or rest k d) before (Contains-get_or rest k d in_range)))))

@@ -80,12 +80,16 @@ empty_good above kind wrong = wrong
 judge_header : (above : List Form) (line : List ℕ) (cs : List Alpha2) (region : Region) → Opens line OfCountry → IsHeader line cs region → IsJudgedBare above line
 judge_header above line cs region opens is = elim (told_contradicted above cs region) [
   | inl against ↦ inr (RegionDiffers, contradicted_stop above line cs region (Kind RegionDiffers) is against)
-  | inr agrees ↦ inl (Country cs region, is, good above line (country_first above line 18 opens
-      (λ less wrong. wrong.1 cs (region_name region) is)
-      (λ less wrong. wrong.1 cs region is)
-      (λ less wrong.
-          let same = same_header wrong.0 cs wrong.1 region (IsForm-unique line (Country wrong.0 wrong.1) (Country cs region) wrong.2 is) in
-          agrees (subst (λ r. IsContradicted above cs r) same.1 (subst (λ xs. IsContradicted above xs wrong.1) same.0 wrong.3)))))
+  | inr agrees ↦ inl (
+    Country cs region,
+    is,
+    good above line (country_first above line 18 opens
+        (λ less wrong. wrong.1 cs (region_name region) is)
+        (λ less wrong. wrong.1 cs region is)
+        (λ less wrong.
+        let same = same_header wrong.0 cs wrong.1 region (IsForm-unique line (Country wrong.0 wrong.1) (Country cs region) wrong.2 is) in
+        agrees (subst (λ r. IsContradicted above cs r) same.1 (subst (λ xs. IsContradicted above xs wrong.1) same.0 wrong.3)))),
+  )
 ]
 
 judge_country : (above : List Form) (line : List ℕ) → Opens line OfCountry → IsJudgedBare above line
@@ -95,13 +99,20 @@ judge_country above line opens = elim (decide_header line) [
 ]
 
 judge_name : (above : List Form) (line name : List ℕ) (o : Option Wmm) → wmm_of name above ≡ o → Opens line OfWmm → IsWmmHeader line name → IsJudgedBare above line
-judge_name above line name None at opens is = inl (WmmHeader name, is, good above line (wmm_first above line 18 opens
-    (λ less wrong. wmm_header_wrong above line opens wrong name is)
-    (λ less wrong. wrong.2 (subst (λ n. wmm_of n above ≡ None) (IsWmmHeader-unique line name wrong.0 is wrong.1) at))))
-judge_name above line name (Some w) at opens is = inr (WmmTwice, record {
-  applies = (name, is, λ none. none-some w (sym none ∙ at));
-  first = wmm_first above line 14 opens (λ less wrong. wmm_header_wrong above line opens wrong name is) (λ less wrong. omega (arith, less));
-})
+judge_name above line name None at opens is = inl (
+  WmmHeader name,
+  is,
+  good above line (wmm_first above line 18 opens
+      (λ less wrong. wmm_header_wrong above line opens wrong name is)
+      (λ less wrong. wrong.2 (subst (λ n. wmm_of n above ≡ None) (IsWmmHeader-unique line name wrong.0 is wrong.1) at))),
+)
+judge_name above line name (Some w) at opens is = inr (
+  WmmTwice,
+  record {
+    applies = (name, is, λ none. none-some w (sym none ∙ at));
+    first = wmm_first above line 14 opens (λ less wrong. wmm_header_wrong above line opens wrong name is) (λ less wrong. omega (arith, less));
+  },
+)
 
 judge_wmm : (above : List Form) (line : List ℕ) → Opens line OfWmm → IsJudgedBare above line
 judge_wmm above line opens = elim (decide_wmm_name line) [
@@ -113,16 +124,23 @@ judge_wmm above line opens = elim (decide_wmm_name line) [
 
 judge_entry : (above : List Form) (line : List ℕ) (item : Item) (e : WmmEntry) → Opens line (OfItem item) → IsInWmm above → IsItemLine line item e → IsJudgedBare above line
 judge_entry above line item e opens inside is = elim (told_has_item above item) [
-  | inl has ↦ inr (BadWmm, record {
+  | inl has ↦ inr (
+    BadWmm,
+    record {
       applies = inr (item, opens, inr has);
       first = item_first above line 13 item opens (λ less wrong. item_outside above line item opens wrong inside) (λ less wrong. omega (arith, less));
-    })
-  | inr lacks ↦ inl (ItemLine item e, is, good above line (item_first above line 18 item opens
-      (λ less wrong. item_outside above line item opens wrong inside)
-      (λ less wrong. elim (item_wrong above line item opens wrong) [
-        | inl none ↦ none e is
-        | inr has ↦ lacks has
-      ])))
+    },
+  )
+  | inr lacks ↦ inl (
+    ItemLine item e,
+    is,
+    good above line (item_first above line 18 item opens
+        (λ less wrong. item_outside above line item opens wrong inside)
+        (λ less wrong. elim (item_wrong above line item opens wrong) [
+          | inl none ↦ none e is
+          | inr has ↦ lacks has
+        ])),
+  )
 ]
 
 judge_item : (above : List Form) (line : List ℕ) (item : Item) → Opens line (OfItem item) → IsJudgedBare above line
@@ -150,9 +168,9 @@ told_no_wmm above line rule (Some name) is = by_wmm (wmm_of name above) refl
     by_wmm : (o : Option Wmm) → wmm_of name above ≡ o → Told (NamesNoWmm above line)
     by_wmm None at = inl (is.text, rule, is.is, name, subst (λ xs. Contains xs name) (sym is.named) (Contains-head name []), at)
     by_wmm (Some w) at = inr (λ n. elim (Contains-cases name [] n.3 (same_named line rule (Some name) n.0 n.1 n.3 is n.2 n.4)) [
-        | inl same ↦ none-some w (sym n.5 ∙ subst (λ x. wmm_of x above ≡ Some w) same at)
-        | inr none ↦ Contains-nothing n.3 none
-      ])
+      | inl same ↦ none-some w (sym n.5 ∙ subst (λ x. wmm_of x above ≡ Some w) same at)
+      | inr none ↦ Contains-nothing n.3 none
+    ])
 
 -- whether some country has too many rules with the line
 told_makes_too_many : (above : List Form) (line : List ℕ) (rule : Rule) (name : Option (List ℕ)) (cs : List Alpha2) → IsRuleLine line rule name
@@ -169,15 +187,21 @@ told_makes_too_many above line rule name cs is block =
 judge_spelled : (above : List Form) (line : List ℕ) (rule : Rule) (name : Option (List ℕ)) (cs : List Alpha2) → block_of above ≡ OfCountries cs → IsRuleLine line rule name
     → IsJudgedBare above line
 judge_spelled above line rule name cs block is = elim (told_no_wmm above line rule name is) [
-  | inl unnamed ↦ inr (NoWmm, record {
+  | inl unnamed ↦ inr (
+    NoWmm,
+    record {
       applies = unnamed;
       first = rule_allows above line cs rule name 12 block is (λ less wrong. omega (arith, less)) (λ less wrong. omega (arith, less));
-    })
+    },
+  )
   | inr there ↦ elim (told_makes_too_many above line rule name cs is block) [
-    | inl many ↦ inr (TooManyRules, record {
+    | inl many ↦ inr (
+      TooManyRules,
+      record {
         applies = many;
         first = rule_allows above line cs rule name 15 block is (λ less wrong. there wrong) (λ less wrong. omega (arith, less));
-      })
+      },
+    )
     | inr few ↦ inl (RuleLine rule name, is, good above line (rule_allows above line cs rule name 18 block is (λ less wrong. there wrong) (λ less wrong. few wrong)))
   ]
 ]
@@ -252,10 +276,13 @@ judge above line = elim (told_lt 4096 (length line)) [
     | inr broken ↦ inr (NotUtf8, not_utf8 above line short broken)
     | inl utf8 ↦ elim (judge_bare above (bare line)) [
       | inl formed ↦ inl (formed.0, record { is = formed.1; good = λ kind applies. formed.2 kind (applies_bare above line kind short utf8 applies) })
-      | inr fault ↦ inr (fault.0, record {
+      | inr fault ↦ inr (
+        fault.0,
+        record {
           applies = bare_applies above line fault.0 fault.1.applies;
           first = λ other less applies. fault.1.first other less (applies_bare above line other short utf8 applies);
-        })
+        },
+      )
     ]
   ]
 ]

@@ -28,7 +28,8 @@ same_domain : (d e : Domain) → d.alpha2 ≡ e.alpha2 → d.region ≡ e.region
 same_domain d e p q r = λ i. record { alpha2 = p i; region = q i; rules = r i }
 
 -- a domain of one database is a domain of the other
-in_other : (lines : List (List ℕ)) (forms : List Form) → AreAccepted lines forms → (ds es : List Domain) → StandsFor forms ds → StandsFor forms es → (d : Domain) → Contains ds d → Contains es d
+in_other : (lines : List (List ℕ)) (forms : List Form) → AreAccepted lines forms → (ds es : List Domain) → StandsFor forms ds → StandsFor forms es
+    → (d : Domain) → Contains ds d → Contains es d
 in_other lines forms accepted ds es p q d has =
     let is_d = All-contains (IsDomainOf forms) ds d p.each has in
     let other = q.all d.alpha2 d.region is_d.named in
@@ -41,7 +42,8 @@ in_other lines forms accepted ds es p q d has =
     let rules = DropsRepeats-unique (rules_of d.alpha2 forms) e.rules d.rules drops is_d.rules in
     subst (Contains es) (same_domain e d code region rules) other.1
 
-StandsFor-unique : (lines : List (List ℕ)) (forms : List Form) → AreAccepted lines forms → (ds es : List Domain) → StandsFor forms ds → StandsFor forms es → ds ≡ es
+StandsFor-unique : (lines : List (List ℕ)) (forms : List Form) → AreAccepted lines forms → (ds es : List Domain) → StandsFor forms ds
+    → StandsFor forms es → ds ≡ es
 StandsFor-unique lines forms accepted ds es p q =
     let up_d = p.db in
     let up_e = q.db in
@@ -68,7 +70,7 @@ not_all : (text : List ℕ) (k : ℕ) (kind : TextKind) (forms : List Form) → 
 not_all text k kind forms fault accepted =
     let lines = lines_of text in
     not_accepted text k (length lines) kind forms fault fault.in_range (omega arith)
-        (subst (λ ls. AreAccepted (reverse ls) forms) (sym (take_all (length lines) lines (omega arith))) accepted)
+    (subst (λ ls. AreAccepted (reverse ls) forms) (sym (take_all (length lines) lines (omega arith))) accepted)
 
 -- one line is the first at fault, by one kind
 first_fault-unique : (text : List ℕ) (j k : ℕ) (a b : TextKind) → IsFirstFault text j a → IsFirstFault text k b → (j ≡ k) × (a ≡ b)
@@ -98,7 +100,8 @@ first_short-unique : (text : List ℕ) (j k : ℕ) (a b : TextKind) → IsFirstS
 first_short-unique text j k a b p q =
     let forms = AreAccepted-unique (reverse (lines_of text)) q.forms p.forms q.accepted p.accepted in
     let there : IsShortAt p.forms k b = subst (λ fs. IsShortAt fs k b) forms q.short in
-    let none : (i : ℕ) (other : TextKind) → i < k → IsShortAt p.forms i other → ⊥ = λ i other less short. q.first i other less (subst (λ fs. IsShortAt fs i other) (sym forms) short) in
+    let none : (i : ℕ) (other : TextKind) → i < k → IsShortAt p.forms i other → ⊥ =
+    λ i other less short. q.first i other less (subst (λ fs. IsShortAt fs i other) (sym forms) short) in
     elim (cases_order j k) [
       | inl same ↦ (same, short_kind p.forms k a b (subst (λ n. IsShortAt p.forms n a) same p.short) there)
       | inr (inl lower) ↦ absurd (none j a lower p.short)
@@ -114,8 +117,10 @@ IsTextFault-unique text f g (j, at_j, p) (k, at_k, q) = same_fault (by_sort p q)
     by_sort (inl p) (inr q) = absurd (not_all text j f.kind q.forms p q.accepted)
     by_sort (inr p) (inl q) = absurd (not_all text k g.kind p.forms q p.accepted)
     by_sort (inr p) (inr q) = first_short-unique text j k f.kind g.kind p q
+
     same_parts : f.line ≡ g.line → f.kind ≡ g.kind → f ≡ g
     same_parts p q = λ i. record { line = p i; kind = q i }
+
     same_fault : (j ≡ k) × (f.kind ≡ g.kind) → f ≡ g
     same_fault same = same_parts (at_j ∙ ap (λ n. n + 1) same.0 ∙ sym at_k) same.1
 

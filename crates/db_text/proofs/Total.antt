@@ -105,9 +105,9 @@ first_short forms (suc n) = elim (first_short forms n) [
   | inr none ↦ elim (told_short forms n) [
     | inl here ↦ inl (n, here.0, record { short = here.1; first = none })
     | inr never ↦ inr (λ j other less short. elim (cases_eq j n) [
-        | inl same ↦ never other (subst (λ i. IsShortAt forms i other) same short)
-        | inr apart ↦ none j other (omega (arith, less, apart)) short
-      ])
+      | inl same ↦ never other (subst (λ i. IsShortAt forms i other) same short)
+      | inr apart ↦ none j other (omega (arith, less, apart)) short
+    ])
   ]
 ]
 
@@ -120,8 +120,10 @@ read_lines text zero within = inr ([], tt)
 read_lines text (suc k) within = elim (read_lines text k (omega (arith, within))) [
   | inl fault ↦ inl fault
   | inr taken ↦ elim (judge taken.0 (get_or (lines_of text) k [])) [
-    | inl good ↦ inr (good.0 ∷ taken.0,
-          subst (λ ls. AreAccepted ls (good.0 ∷ taken.0)) (sym (reverse_more (lines_of text) k (omega (arith, within)))) (taken.1, good.1))
+    | inl good ↦ inr (
+      good.0 ∷ taken.0,
+      subst (λ ls. AreAccepted ls (good.0 ∷ taken.0)) (sym (reverse_more (lines_of text) k (omega (arith, within)))) (taken.1, good.1),
+    )
     | inr fault ↦ inl (k, fault.0, record { in_range = omega (arith, within); above = taken.0; accepted = taken.1; fault = fault.1 })
   ]
 ]
@@ -130,8 +132,10 @@ read_lines text (suc k) within = elim (read_lines text k (omega (arith, within))
 accepted_answer : (text : List ℕ) (forms : List Form) → AreAccepted (reverse (lines_of text)) forms
     → ((ds : List Domain) × TextOf text ds) ⊎ ((fault : TextFault) × IsTextFault text fault)
 accepted_answer text forms accepted = elim (first_short forms (length forms)) [
-  | inl late ↦ inr (record { line = late.0 + 1; kind = late.1 },
-        (late.0, refl, inr (record { forms = forms; accepted = accepted; short = late.2.short; first = late.2.first })))
+  | inl late ↦ inr (
+    record { line = late.0 + 1; kind = late.1 },
+    (late.0, refl, inr (record { forms = forms; accepted = accepted; short = late.2.short; first = late.2.first })),
+  )
   | inr none ↦
       let built = stands_for_some (reverse (lines_of text)) forms (record {
         accepted = accepted;

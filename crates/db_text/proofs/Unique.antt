@@ -85,7 +85,8 @@ pub record IsGoodAt (lines : List (List ℕ)) (j : ℕ) : Type 0 where
   pub accepted : AreAccepted (reverse (take j lines)) above
   pub good : IsGoodLine above (get_or lines j []) form
 
-last_good : (lines : List (List ℕ)) (j : ℕ) (line : List ℕ) (forms : List Form) → line ≡ get_or lines j [] → AreAccepted (line ∷ reverse (take j lines)) forms → IsGoodAt lines j
+last_good : (lines : List (List ℕ)) (j : ℕ) (line : List ℕ) (forms : List Form) → line ≡ get_or lines j []
+    → AreAccepted (line ∷ reverse (take j lines)) forms → IsGoodAt lines j
 last_good lines j line [] is accepted = absurd accepted
 last_good lines j line (form ∷ above) is accepted = record {
   above = above;
@@ -139,13 +140,15 @@ agrees line form above code r s good top named = elim (cases_region s r) [
 ]
 
 -- a code has one region
-pub one_region : (lines : List (List ℕ)) (forms : List Form) → AreAccepted lines forms → (code : Alpha2) (r s : Region) → Names forms code r → Names forms code s → r ≡ s
+pub one_region : (lines : List (List ℕ)) (forms : List Form) → AreAccepted lines forms → (code : Alpha2) (r s : Region)
+    → Names forms code r → Names forms code s → r ≡ s
 one_region lines [] accepted code r s p q = absurd (Contains-nothing (Country p.0 r) p.1)
 one_region [] (form ∷ above) accepted code r s p q = absurd accepted
 one_region (line ∷ lines) (form ∷ above) accepted code r s p q =
     by_places (Names-cases form above code r p) (Names-cases form above code s q) (one_region lines above accepted.0 code r s)
   where
-    by_places : ((cs : List Alpha2) × (form ≡ Country cs r) × Contains cs code) ⊎ Names above code r → ((cs : List Alpha2) × (form ≡ Country cs s) × Contains cs code) ⊎ Names above code s
+    by_places : ((cs : List Alpha2) × (form ≡ Country cs r) × Contains cs code) ⊎ Names above code r
+        → ((cs : List Alpha2) × (form ≡ Country cs s) × Contains cs code) ⊎ Names above code s
         → (Names above code r → Names above code s → r ≡ s) → r ≡ s
     by_places (inl a) (inl b) rest = (same_header a.0 b.0 r s (sym a.1 ∙ b.1)).1
     by_places (inl a) (inr b) rest = sym (agrees line form above code r s accepted.1 a b)

@@ -166,13 +166,15 @@ closed_rules : (code : Alpha2) (rule : Rule) (name : Option (List ℕ)) (above :
     → rules_of code (RuleLine rule name ∷ above) ≡ rules_of code above
 closed_rules code rule name above is = rw is refl
 
-pub few_rules : (lines : List (List ℕ)) (forms : List Form) → AreAccepted lines forms → (code : Alpha2) (kept : List Rule) → DropsRepeats (rules_of code forms) kept → length kept ≤ 128
+pub few_rules : (lines : List (List ℕ)) (forms : List Form) → AreAccepted lines forms → (code : Alpha2) (kept : List Rule)
+    → DropsRepeats (rules_of code forms) kept → length kept ≤ 128
 few_rules lines [] accepted code kept drops = let none = ap length drops in omega (arith, none)
 few_rules [] (form ∷ above) accepted code kept drops = absurd accepted
 few_rules (line ∷ lines) (RuleLine rule name ∷ above) accepted code kept drops =
     by_test (cases_Bool (is_of_code code (block_of above))) (few_rules lines above accepted.0 code kept)
   where
-    by_test : (is_of_code code (block_of above) ≡ true) ⊎ (is_of_code code (block_of above) ≡ false) → (DropsRepeats (rules_of code above) kept → length kept ≤ 128) → length kept ≤ 128
+    by_test : (is_of_code code (block_of above) ≡ true) ⊎ (is_of_code code (block_of above) ≡ false)
+        → (DropsRepeats (rules_of code above) kept → length kept ≤ 128) → length kept ≤ 128
     by_test (inr closed) rest = rest (subst (λ rules. DropsRepeats rules kept) (closed_rules code rule name above closed) drops)
     by_test (inl opened) rest = elim (cases_lt 128 (length kept)) [
       | inr few ↦ few
