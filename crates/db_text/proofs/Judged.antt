@@ -12,9 +12,8 @@ use Rattle.rule_tables.specs.declared.code.Alpha2.{Alpha2}
 use Rattle.rule_tables.specs.declared.code.Region.{Region}
 use Rattle.db_text.specs.declared.fault.LineStop.TheVariants.{Kind}
 use Rattle.db_text.specs.declared.fault.TextKind.{TextKind}
-use Rattle.db_text.specs.declared.fault.TextKind.TheVariants.{LineTooLong, NotUtf8, BadLine, NoBlock, BadCountry, BadRegion, RegionDiffers, BadBand, BadPower, BadFlag, FlagNotInVersion, NoWmm, BadWmm, WmmTwice, TooManyRules}
+use Rattle.db_text.specs.declared.fault.TextKind.TheVariants.{LineTooLong, NotUtf8, BadLine, NoBlock, RegionDiffers, NoWmm, BadWmm, WmmTwice, TooManyRules}
 use Rattle.db_text.specs.declared.form.Item.{Item}
-use Rattle.db_text.specs.declared.form.Item.TheVariants.{VoC, ViC, BeC, BkC, VoAp, ViAp, BeAp, BkAp}
 use Rattle.db_text.specs.declared.form.Opening.{Opening}
 use Rattle.db_text.specs.declared.form.Opening.TheVariants.{Country as OfCountry, Wmm as OfWmm, Rule as OfRule, Item as OfItem}
 use Rattle.db_text.specs.Faults.{Applies, HasTooMany, IsContradicted, IsGoodLine, IsInWmm, IsLineFault, IsWrong, MakesTooMany, NamesNoWmm, place_of_kind}
@@ -25,9 +24,10 @@ use Rattle.db_text.specs.Lines.{bare}
 use Rattle.db_text.specs.Spelling.{IsHeader, IsItemLine, IsRuleLine, IsSpelledRule, IsWmmHeader, Opens, RuleText, list_of, names_in, region_name}
 use Rattle.db_text.specs.State.{IsBareFault}
 use Rattle.db_text.proofs.Contexts.{same_codes_block, told_contradicted, told_has_item, told_in_countries, told_in_wmm, told_too_many}
+use Rattle.db_text.proofs.EmptyLines.{empty_good}
 use Rattle.db_text.proofs.Deciding.{Told, told_any, told_lt}
 use Rattle.db_text.proofs.FormLaws.{same_header}
-use Rattle.db_text.proofs.LineForms.{HasCodes-opens, IsForm-unique, IsSpelledRule-opens, IsSpelledRule-unique, IsWmmHeader-opens, IsWmmHeader-unique, decide_entry, decide_header, decide_opening, decide_rule, decide_wmm_name}
+use Rattle.db_text.proofs.LineForms.{IsForm-unique, IsSpelledRule-unique, IsWmmHeader-unique, decide_entry, decide_header, decide_opening, decide_rule, decide_wmm_name}
 use Rattle.db_text.proofs.HeaderTaken.{contradicted_stop, header_stop, wmm_bad}
 use Rattle.db_text.proofs.LineLaws.{country_first, good, item_first, item_outside, item_wrong, wmm_first, wmm_header_wrong}
 use Rattle.db_text.proofs.RuleTaken.{item_bad, item_nothing, rule_allows, rule_nothing, rule_stop}
@@ -40,40 +40,6 @@ IsJudgedBare above line =
 -- the same of a line as it stands in the text
 abbrev pub IsJudged : List Form → List ℕ → Type 0
 IsJudged above line = ((form : Form) × IsGoodLine above line form) ⊎ ((kind : TextKind) × IsLineFault above line kind)
-
--- ---- an empty line
-
-opens_nothing : (o : Opening) → Opens [] o → ⊥
-opens_nothing OfCountry opens = let e = opens.1 in cc
-opens_nothing OfWmm opens = let e = opens.1 in cc
-opens_nothing OfRule opens = let e = opens.1 in cc
-opens_nothing (OfItem VoC) opens = let e = opens.1 in cc
-opens_nothing (OfItem ViC) opens = let e = opens.1 in cc
-opens_nothing (OfItem BeC) opens = let e = opens.1 in cc
-opens_nothing (OfItem BkC) opens = let e = opens.1 in cc
-opens_nothing (OfItem VoAp) opens = let e = opens.1 in cc
-opens_nothing (OfItem ViAp) opens = let e = opens.1 in cc
-opens_nothing (OfItem BeAp) opens = let e = opens.1 in cc
-opens_nothing (OfItem BkAp) opens = let e = opens.1 in cc
-
--- nothing is wrong with an empty line
-empty_good : (above : List Form) (kind : TextKind) → IsWrong above [] kind → ⊥
-empty_good above BadLine wrong = wrong.0 refl
-empty_good above NoBlock (inl wrong) = opens_nothing OfRule wrong.0
-empty_good above NoBlock (inr wrong) = opens_nothing (OfItem wrong.0) wrong.1
-empty_good above BadCountry wrong = opens_nothing OfCountry wrong.0
-empty_good above BadRegion wrong = opens_nothing OfCountry wrong.0
-empty_good above RegionDiffers wrong = opens_nothing OfCountry (HasCodes-opens [] wrong.0 (region_name wrong.1) wrong.2)
-empty_good above BadBand wrong = opens_nothing OfRule wrong.0
-empty_good above BadPower wrong = opens_nothing OfRule wrong.0
-empty_good above BadFlag wrong = opens_nothing OfRule wrong.0
-empty_good above FlagNotInVersion wrong = opens_nothing OfRule (IsSpelledRule-opens [] wrong.0 wrong.1 wrong.2)
-empty_good above NoWmm wrong = opens_nothing OfRule (IsSpelledRule-opens [] wrong.0 wrong.1 wrong.2)
-empty_good above BadWmm (inl wrong) = opens_nothing OfWmm wrong.0
-empty_good above BadWmm (inr wrong) = opens_nothing (OfItem wrong.0) wrong.1
-empty_good above WmmTwice wrong = opens_nothing OfWmm (IsWmmHeader-opens [] wrong.0 wrong.1)
-empty_good above TooManyRules wrong = opens_nothing OfRule (IsSpelledRule-opens [] wrong.2.text wrong.0 wrong.2.is)
-empty_good above kind wrong = wrong
 
 -- ---- headers
 

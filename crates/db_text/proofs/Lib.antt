@@ -2,6 +2,7 @@ pub mod Built
 pub mod Contexts
 pub mod CountryLaws
 pub mod Deciding
+pub mod EmptyLines
 pub mod EqualRules
 pub mod FormLaws
 pub mod HeaderTaken

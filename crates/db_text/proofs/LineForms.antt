@@ -1,4 +1,4 @@
-use Rattle.std.proofs.Common.{◌≡◌, ◌≢◌, ℕ, List, Option, ◌⊎◌}
+use Rattle.std.proofs.Common.{◌≡◌, ◌≢◌, ℕ, List, [], Option, ◌⊎◌}
 use Rattle.freq_range.specs.declared.rule.Rule.{Rule}
 use Rattle.freq_range.specs.declared.wmm.WmmEntry.{WmmEntry}
 use Rattle.rule_tables.specs.declared.code.Alpha2.{Alpha2}
@@ -41,3 +41,5 @@ pub decide_entry : (line : List ℕ) (item : Item) → ((e : WmmEntry) × IsItem
 decide_entry line item = ?
 pub decide_rule : (line : List ℕ) → ((rule : Rule) × (name : Option (List ℕ)) × IsRuleLine line rule name) ⊎ ((kind : TextKind) × IsRuleKind line kind)
 decide_rule line = ?
+pub Opens-some : (opening : Opening) → Opens [] opening → ⊥
+Opens-some opening h = ?
