@@ -1,6 +1,6 @@
 -- What the parser keeps of the lines so far. Only private functions' clauses cite it; the laws of proofs/ tie it to what
 -- the lines say.
-use Rattle.std.specs.Prelude.{◌≡◌, ◌≢◌, ℕ, ◌+◌, ◌<◌, ◌≤◌, ◌⊎◌, List, [], ◌∷◌, ◌++◌, length, Contains, Option, Some, None, IfSome, if◌then◌else◌}
+use Rattle.std.specs.Prelude.{◌≡◌, ◌≢◌, ℕ, ◌+◌, ◌<◌, ◌≤◌, ◌⊎◌, List, [], ◌∷◌, ◌++◌, length, reverse, All, AllPairs, Contains, Option, Some, None, IfSome, if◌then◌else◌}
 use Rattle.std.specs.BTreeMap.{BTreeMap, get}
 use Rattle.std.specs.Ordering.{nat_cmp}
 use Rattle.std.specs.BTreeMap.{get_by}
@@ -16,7 +16,12 @@ use Rattle.std.specs.List.{list_any}
 use Rattle.freq_range.specs.First.{IsFirst}
 use Rattle.rule_tables.specs.Code.{IsCode}
 use Rattle.rule_tables.specs.FileFormat.{DropsRepeats}
-use Rattle.db_text.specs.Faults.{HasTooMany, IsContradicted, IsGoodLine, IsLineFault, IsWrong, place_of_kind}
+use Rattle.rule_tables.specs.Databases.{IsDb, IsDomain}
+use Rattle.rule_tables.specs.declared.domain.Domain.{Domain}
+use Rattle.db_text.specs.declared.fault.TextFault.{TextFault}
+use Rattle.db_text.specs.Lines.{lines_of}
+use Rattle.db_text.specs.TextOf.{IsShortAt}
+use Rattle.db_text.specs.Faults.{AreAccepted, HasTooMany, IsContradicted, IsGoodLine, IsLineFault, IsWrong, place_of_kind}
 use Rattle.db_text.specs.Forms.{Form, IsForm, Names, block_of, entry_of, form_at, no_items, rules_of, same_code, with_entry, wmm_of}
 use Rattle.db_text.specs.Forms.Block.{NoBlock, OfCountries, OfName}
 use Rattle.db_text.specs.Forms.Form.{Country, RuleLine, WmmHeader}
@@ -244,3 +249,45 @@ IsNameStop blocks (Some name) stop = (stop ≡ Kind NoWmm) × (block_named block
 abbrev pub NamesWmm : Blocks → Option (List ℕ) → Option Wmm → Type 0
 NamesWmm blocks None wmm = wmm ≡ None
 NamesWmm blocks (Some name) wmm = (block : WmmBlock) × (block_named blocks name ≡ Some block) × (wmm ≡ Some block.wmm)
+
+-- ---- the whole text
+
+-- the parser holds what the lines of the text say, and nothing is wrong with any
+pub record AreRead (text : List ℕ) (parser : Parser) : Type 0 where
+  pub forms : List Form
+  pub accepted : AreAccepted (reverse (lines_of text)) forms
+  pub stands : Stands forms parser
+
+-- all countries of the lines
+pub record AreAllCountries (forms : List Form) (countries : List Kept) : Type 0 where
+  pub each : All (λ country. IsCode country.alpha2 × IsKeptCountry forms country.alpha2 country) countries
+  pub all : (code : Alpha2) (region : Region) → IsCode code → Names forms code region → (country : Kept) × Contains countries country × (country.alpha2 ≡ code)
+  pub ascending : AllPairs (λ country other. key country.alpha2 < key other.alpha2) countries
+
+-- all WMM rules of the lines
+pub record AreAllBlocks (forms : List Form) (blocks : List WmmBlock) : Type 0 where
+  pub each : All (λ block. (name : List ℕ) × IsBlockOf forms name (Some block)) blocks
+  pub all : (name : List ℕ) → wmm_of name forms ≢ None → (block : WmmBlock) × Contains blocks block × IsBlockOf forms name (Some block)
+
+-- the least line of the elements of which P holds
+pub record IsLeastLine {X : Type 0} (P : X → Type 0) (line : X → ℕ) (xs : List X) (n : ℕ) : Type 0 where
+  pub here : (x : X) × Contains xs x × P x × (line x ≡ n)
+  pub least : (x : X) → Contains xs x → P x → n ≤ line x
+
+-- the fault is that of the first header that is left short
+abbrev pub IsFirstShortOf : List Form → TextFault → Type 0
+IsFirstShortOf forms fault = (k : ℕ) × (fault.line ≡ k + 1) × IsShortAt forms k fault.kind × ((j : ℕ) (other : TextKind) → j < k → IsShortAt forms j other → ⊥)
+
+abbrev pub domain_of : Kept → Domain
+domain_of country = record { alpha2 = country.alpha2; region = country.region; rules = country.rules }
+
+-- countries whose domains a database may hold
+pub record AreReady (countries : List Kept) : Type 0 where
+  pub each : All (λ country. IsDomain (domain_of country)) countries
+  pub apart : AllPairs (λ country other. country.alpha2 ≢ other.alpha2) countries
+
+-- the domains are those of the countries
+pub record AreDomainsOf (countries : List Kept) (ds : List Domain) : Type 0 where
+  pub db : IsDb ds
+  pub each : All (λ d. (country : Kept) × Contains countries country × (domain_of country ≡ d)) ds
+  pub all : (country : Kept) → Contains countries country → Contains ds (domain_of country)

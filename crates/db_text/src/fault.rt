@@ -2,6 +2,8 @@
 
 ghost use Rattle.std.specs.Prelude.{◌≡◌};
 ghost use Rattle.db_text.specs.declared.fault.LineStop.TheVariants.{OutOfMemory};
+ghost use Rattle.db_text.specs.declared.fault.ParseFault.TheVariants.{OutOfMemory as ParseOutOfMemory};
+ghost use Rattle.db_text.specs.declared.fault.RuleTextFault.TheVariants.{Kind, OutOfMemory as NoMemory};
 
 use std::alloc::{AllocError, AllocFailed};
 use thiserror::Error;
@@ -81,6 +83,14 @@ pub enum ParseFault {
     OutOfMemory,
 }
 
+impl From<reg_base::OutOfMemory> for ParseFault {
+    ghost from_gives = { λ _ e. e ≡ ParseOutOfMemory };
+
+    fn from(_error: reg_base::OutOfMemory) -> ParseFault {
+        ParseFault::OutOfMemory
+    }
+}
+
 /// Why a text isn't the line of a rule.
 #[derive(Clone, Copy, Debug, PartialEq, Eq, Error)]
 pub enum RuleTextFault {
@@ -90,6 +100,22 @@ pub enum RuleTextFault {
     /// No memory was found.
     #[error("no memory")]
     OutOfMemory,
+}
+
+impl From<TextKind> for RuleTextFault {
+    ghost from_gives = { λ kind fault. fault ≡ Kind kind };
+
+    fn from(kind: TextKind) -> RuleTextFault {
+        RuleTextFault::Kind(kind)
+    }
+}
+
+impl From<reg_base::OutOfMemory> for RuleTextFault {
+    ghost from_gives = { λ _ fault. fault ≡ NoMemory };
+
+    fn from(_error: reg_base::OutOfMemory) -> RuleTextFault {
+        RuleTextFault::OutOfMemory
+    }
 }
 
 /// Why a line isn't taken.

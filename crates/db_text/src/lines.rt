@@ -55,6 +55,7 @@ fn without_comment(line: &[u8]) -> &[u8]
 }
 
 /// Puts what counts of a line into the buffer, in place of what it held.
+#[tactic(auto, using(crate::proofs::Solid::steps))]
 pub fn squeeze(line: &[u8], buffer: &mut Vec<u8>) -> Result<(), OutOfMemory>
     ensures { OnOk result (buffer.new.items ≡ bare line.now) }
 {

@@ -3,36 +3,51 @@
 ghost use Rattle.std.specs.Prelude.{◌≡◌, MatchOption};
 ghost use Rattle.db_text.specs.declared.form.Opening.{Opening};
 ghost use Rattle.db_text.specs.Reading.{item_at, opening_at};
-ghost use Rattle.db_text.specs.Spelling.{Opens, item_name};
+ghost use Rattle.db_text.specs.Spelling.{Opens};
 
 use crate::form::{Item, Opening};
-use crate::scanner::{after_byte, after_word};
+use crate::scanner::begins_with;
 
-/// The eight items.
-const ITEMS: [Item; 8] = [
-    Item::VoC,
-    Item::ViC,
-    Item::BeC,
-    Item::BkC,
-    Item::VoAp,
-    Item::ViAp,
-    Item::BeAp,
-    Item::BkAp,
-];
-
-/// The name of an item.
-pub fn item_name(item: Item) -> &'static [u8]
-    ensures { result.now ≡ item_name item }
+/// The item whose name and a colon stand first.
+#[tactic(auto, unfolding(crate::specs::Reading::item_at))]
+fn item_at(line: &[u8]) -> Option<Item>
+    ensures { MatchOption result (item_at line.now ≡ None) (λ item. item_at line.now ≡ Some item) }
 {
-    match item {
-        Item::VoC => b"vo_c",
-        Item::ViC => b"vi_c",
-        Item::BeC => b"be_c",
-        Item::BkC => b"bk_c",
-        Item::VoAp => b"vo_ap",
-        Item::ViAp => b"vi_ap",
-        Item::BeAp => b"be_ap",
-        Item::BkAp => b"bk_ap",
+    if begins_with(line, b"vo_c:") {
+        Some(Item::VoC)
+    } else if begins_with(line, b"vi_c:") {
+        Some(Item::ViC)
+    } else if begins_with(line, b"be_c:") {
+        Some(Item::BeC)
+    } else if begins_with(line, b"bk_c:") {
+        Some(Item::BkC)
+    } else if begins_with(line, b"vo_ap:") {
+        Some(Item::VoAp)
+    } else if begins_with(line, b"vi_ap:") {
+        Some(Item::ViAp)
+    } else if begins_with(line, b"be_ap:") {
+        Some(Item::BeAp)
+    } else if begins_with(line, b"bk_ap:") {
+        Some(Item::BkAp)
+    } else {
+        None
+    }
+}
+
+/// How the bytes of the line begin, by the steps of the program.
+#[tactic(auto, unfolding(crate::specs::Reading::opening_at))]
+fn opening_at(line: &[u8]) -> Option<Opening>
+    ensures { MatchOption result (opening_at line.now ≡ None) (λ opening. opening_at line.now ≡ Some opening) }
+{
+    if begins_with(line, b"country") {
+        Some(Opening::Country)
+    } else if begins_with(line, b"wmmrule") {
+        Some(Opening::Wmm)
+    } else if begins_with(line, b"(") {
+        Some(Opening::Rule)
+    } else {
+        let item = item_at(line)?;
+        Some(Opening::Item(item))
     }
 }
 
@@ -40,5 +55,5 @@ pub fn item_name(item: Item) -> &'static [u8]
 pub fn opening_of(line: &[u8]) -> Option<Opening>
     ensures opening { MatchOption result ((opening : Opening) → Opens line.now opening → ⊥) (λ opening. Opens line.now opening) }
 {
-    None
+    opening_at(line)
 }

@@ -2,15 +2,40 @@
 
 ghost use Rattle.std.specs.Prelude.{MatchResult};
 ghost use Rattle.db_text.specs.Faults.{IsTextOfRule};
+ghost use Rattle.db_text.specs.Reading.{IsBareKind, IsBareRule};
 ghost use Rattle.db_text.specs.TextOf.{IsParseRuleFault};
 
-use crate::fault::RuleTextFault;
+use crate::fault::{RuleTextFault, TextKind};
+use crate::lines::{readable, squeeze};
+use crate::rule_reader::spelled_rule_of;
+use crate::scanner::begins_with;
 use freq_range::Rule;
 use std::alloc::Global;
+
+/// The rule that the squeezed line says, without `wmmrule=`, or what is wrong with it.
+fn bare_rule_of(line: &[u8]) -> Result<Rule, TextKind>
+    ensures { MatchResult result (IsBareRule line.now) (IsBareKind line.now) }
+{
+    if !begins_with(line, b"(") {
+        return Err(TextKind::BadLine);
+    }
+    let spelled = spelled_rule_of(line)?;
+    if spelled.name.is_some() {
+        return Err(TextKind::BadFlag);
+    }
+    if !spelled.is_kept {
+        return Err(TextKind::FlagNotInVersion);
+    }
+    Ok(spelled.rule)
+}
 
 /// The rule that a line of a rule text says, without `wmmrule=`, or what is wrong with the line.
 pub fn parse_rule(alloc: Global, text: &[u8]) -> Result<Rule, RuleTextFault>
     ensures rule { MatchResult result (λ rule. IsTextOfRule text.now rule) (IsParseRuleFault text.now) }
 {
-    Err(RuleTextFault::OutOfMemory)
+    readable(text)?;
+    let mut buffer = Vec::new(alloc);
+    squeeze(text, &mut buffer)?;
+    let rule = bare_rule_of(buffer.as_slice())?;
+    Ok(rule)
 }

@@ -1,7 +1,7 @@
 //! Reads bytes and words of a line that is squeezed.
 
 ghost use Rattle.std.specs.Prelude.{◌≡◌, ◌<◌, length, IfSome, MatchOption};
-ghost use Rattle.db_text.specs.Reading.{after_byte, after_word, behind_digits, cut_at, digits_of, number_at, same_bytes};
+ghost use Rattle.db_text.specs.Reading.{after_byte, after_word, behind_digits, behind_of, front_of, digits_of, number_at, same_bytes, begins_with, titled_at};
 
 /// What is behind the byte, where it stands first.
 #[tactic(auto, unfolding(crate::specs::Reading::after_byte))]
@@ -26,6 +26,13 @@ pub fn after_word<'a>(bytes: &'a [u8], word: &[u8]) -> Option<&'a [u8]>
     Some(rest)
 }
 
+/// Whether the word stands first.
+pub fn begins_with(bytes: &[u8], word: &[u8]) -> bool
+    ensures { result ≡ begins_with word.now bytes.now }
+{
+    after_word(bytes, word).is_some()
+}
+
 /// Whether the bytes are the word.
 pub fn is_word(bytes: &[u8], word: &[u8]) -> bool
     ensures { result ≡ same_bytes bytes.now word.now }
@@ -36,8 +43,8 @@ pub fn is_word(bytes: &[u8], word: &[u8]) -> bool
 /// What stands before the first such byte, and what is behind it, if there is one.
 #[tactic(auto, using(crate::proofs::Cuts::steps))]
 pub fn cut_at(bytes: &[u8], byte: u8) -> (&[u8], Option<&[u8]>)
-    ensures front { (cut_at byte bytes.now).0 ≡ result.0.now }
-    ensures behind { MatchOption result.1 ((cut_at byte bytes.now).1 ≡ None) (λ rest. (cut_at byte bytes.now).1 ≡ Some rest.now) }
+    ensures front { result.0.now ≡ front_of byte bytes.now }
+    ensures behind { MatchOption result.1 (behind_of byte bytes.now ≡ None) (λ rest. behind_of byte bytes.now ≡ Some rest.now) }
     ensures shorter { IfSome result.1 (λ rest. length rest.now < length bytes.now) }
 {
     for (i, found) in bytes.iter().enumerate() {
@@ -46,6 +53,17 @@ pub fn cut_at(bytes: &[u8], byte: u8) -> (&[u8], Option<&[u8]>)
         }
     }
     (bytes, None)
+}
+
+/// What stands between the word and the first colon, and what is behind the colon.
+#[tactic(auto, unfolding(crate::specs::Reading::titled_at))]
+pub fn titled_at<'a>(bytes: &'a [u8], word: &[u8]) -> Option<(&'a [u8], &'a [u8])>
+    ensures { MatchOption result (titled_at word.now bytes.now ≡ None) (λ x. titled_at word.now bytes.now ≡ Some (x.0.now, x.1.now)) }
+{
+    let rest = after_word(bytes, word)?;
+    let (title, behind) = cut_at(rest, b':');
+    let behind = behind?;
+    Some((title, behind))
 }
 
 /// The digits that stand first, perhaps none, and what is behind them.
