@@ -73,11 +73,11 @@ with_cw_max cw_min cw_max = field_at (codes ",aifsn=") 255 cw_max.1 >>= with_aif
 abbrev with_cw_min : ℕ × List ℕ → Option ItemNumbers
 with_cw_min cw_min = field_at (codes ",cw_max=") 32767 cw_min.1 >>= with_cw_max cw_min
 
-abbrev item_cells : List ℕ → ItemText → List ℕ
+abbrev pub item_cells : List ℕ → ItemText → List ℕ
 item_cells name t =
     name ++ (codes ":cw_min=" ++ (t.cw_min ++ (codes ",cw_max=" ++ (t.cw_max ++ (codes ",aifsn=" ++ (t.aifsn ++ (codes ",cot=" ++ (t.cot ++ []))))))))
 
-item-cells : (item : Item) (t : ItemText) → item_text item t ≡ item_cells (item_name item) t
+pub item-cells : (item : Item) (t : ItemText) → item_text item t ≡ item_cells (item_name item) t
 item-cells item t = from (item_name item)
   where
     from : (name : List ℕ) → name ++ codes ":cw_min=" ++ t.cw_min ++ codes ",cw_max=" ++ t.cw_max ++ codes ",aifsn=" ++ t.aifsn ++ codes ",cot=" ++ t.cot ≡ item_cells name t

@@ -7,6 +7,7 @@ pub mod Decimals
 pub mod Digits
 pub mod Gathering
 pub mod Items
+pub mod LineForms
 pub mod Lists
 pub mod Milliwatts
 pub mod Names
