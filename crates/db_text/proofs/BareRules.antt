@@ -1,5 +1,5 @@
 -- A rule that stands for itself.
-use Rattle.std.proofs.Common.{◌≡◌, ◌≢◌, ℕ, ◌<◌, ◌≤◌, List, [], ◌∷◌, ◌++◌, Bool, true, false, length, Option, Some, None, refl, ap, ◌∙◌, sym, subst, arith, append_assoc, rules}
+use Rattle.std.proofs.Common.{◌≡◌, ◌≢◌, ℕ, ◌<◌, ◌≤◌, List, [], ◌++◌, Bool, true, false, length, Option, Some, None, refl, ap, ◌∙◌, sym, subst, arith, append_assoc}
 use denote.Ref.{Bor}
 use Rattle.std.specs.Prelude.{codes, All, is_some, option_map, IsUtf8}
 use Rattle.freq_range.specs.declared.rule.Rule.{Rule}
@@ -152,6 +152,7 @@ bare-rule line rule r h = record { is = h.is; good = good }
   where
     spelled : IsSpelledRule (bare line) h.is.text rule
     spelled = h.is.is
+
     good : (kind : TextKind) → AppliesToRule line kind → ⊥
     good LineTooLong a = omega (arith, a, r.short)
     good NotUtf8 a = a r.utf8

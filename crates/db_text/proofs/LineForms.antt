@@ -1,6 +1,6 @@
 -- What the forms of lines are told by: a line opens in one way, has at most one form, and whether it has a form of a kind
 -- is decided.
-use Rattle.std.proofs.Common.{◌≡◌, ℕ, List, [], ◌∷◌, Option, Some, None, refl, ap, ◌∙◌, sym, subst, append_assoc, ◌++◌}
+use Rattle.std.proofs.Common.{◌≡◌, ℕ, List, [], Option, Some, None, refl, ap, ◌∙◌, sym, subst, append_assoc, ◌++◌}
 use Rattle.std.specs.Prelude.{codes}
 use Rattle.std.proofs.lemmas.Option.{same_Some}
 use Rattle.freq_range.specs.declared.rule.Rule.{Rule}
