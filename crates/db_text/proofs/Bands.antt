@@ -1,11 +1,10 @@
 -- Bands: what is read is spelled so, and what is spelled so is read.
-use Rattle.std.proofs.Common.{◌≡◌, ℕ, ◌-◌, ◌^◌, ◌<◌, ◌≤◌, List, [], ◌∷◌, ◌++◌, Bool, true, false, ◌&&◌, cond, leb, ltb, length, Option, Some, None, refl, ap, ◌∙◌, sym, subst, arith, append_assoc}
-use Rattle.std.specs.Prelude.{codes}
+use Rattle.std.proofs.Common.{◌≡◌, ℕ, ◌-◌, ◌≤◌, List, ◌∷◌, ◌++◌, true, ◌&&◌, leb, ltb, Option, Some, None, refl, ap, ◌∙◌, sym, subst, arith, append_assoc}
 use Rattle.std.proofs.lemmas.Bool.{and_from, and_parts, le-leb, leb-true, lt-ltb, ltb-true}
-use Rattle.std.proofs.lemmas.Option.{cond_some, some_pair_parts}
+use Rattle.std.proofs.lemmas.Option.{cond_some}
 use Rattle.db_text.specs.declared.band_reader.Band.{Band}
 use Rattle.db_text.specs.Reading.{◌>>=◌, after_byte, band_at, decimal_at, khz_behind, valid_band}
-use Rattle.db_text.specs.Spelling.{BandText, BeginsWithBand, Decimal, IsBand, IsDecimal, band_text, decimal_text, scaled}
+use Rattle.db_text.specs.Spelling.{BandText, BeginsWithBand, Decimal, IsBand, IsDecimal, band_text, scaled}
 use Rattle.db_text.proofs.Decimals.{EndsDecimal, decimal_at-again, decimal_at-reads, decimal_cells}
 use Rattle.db_text.proofs.Words.{after_byte-again, after_byte-reads, bind_some}
 

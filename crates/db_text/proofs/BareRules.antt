@@ -1,6 +1,7 @@
 -- A rule that stands for itself.
-use Rattle.std.proofs.Common.{◌≡◌, ◌≢◌, ℕ, ◌<◌, ◌≤◌, List, [], ◌∷◌, ◌++◌, Bool, true, false, length, Option, Some, None, refl, ap, ◌∙◌, sym, subst, arith, append_assoc, rules}
-use Rattle.std.specs.Prelude.{codes, All, is_some, IsUtf8}
+use Rattle.std.proofs.Common.{◌≡◌, ◌≢◌, ℕ, ◌<◌, ◌≤◌, List, [], ◌++◌, Bool, true, false, length, Option, Some, None, refl, ap, ◌∙◌, sym, subst, arith, append_assoc}
+use denote.Ref.{Bor}
+use Rattle.std.specs.Prelude.{codes, All, is_some, option_map, IsUtf8}
 use Rattle.freq_range.specs.declared.rule.Rule.{Rule}
 use Rattle.db_text.specs.declared.fault.TextKind.{TextKind}
 use Rattle.db_text.specs.declared.fault.TextKind.TheVariants.{LineTooLong, NotUtf8, BadLine, NoBlock, BadCountry, BadRegion, RegionDiffers, BadBand, BadPower, BadFlag, FlagNotInVersion, NoWmm, BadWmm, WmmTwice, TooManyRules, WmmShort, NoRules}
@@ -55,6 +56,10 @@ part-bare line NoRules opens h = absurd h
 named-list : (name : Option (List ℕ)) → is_some name ≡ true → list_of name ≢ []
 named-list None e = absurd cc
 named-list (Some name) e = λ none. absurd cc
+
+pub some-now : (o : Option (Bor (List ℕ))) → is_some o ≡ true → is_some (option_map (λ name. name.now) o) ≡ true
+some-now None e = absurd cc
+some-now (Some name) e = refl
 
 pub named-bare : (line : List ℕ) (rule : Rule) (name : Option (List ℕ)) (kept : Bool) → Opens line OfRule → IsSpelledAs line rule name kept → is_some name ≡ true → IsBareKind line BadFlag
 named-bare line rule name kept opens h some = (
@@ -118,8 +123,8 @@ bare-fault line BadPower r h =
     let begins = h.1.0 in
     record { applies = h.1.1; first = denied line 9 (λ lt. r.short) (λ lt. r.utf8) (λ lt. h.0) (λ lt lacks. lacks begins.0 begins.1) (out_of 9 9 (omega arith)) (out_of 10 9 (omega arith)) (omega arith) }
 bare-fault line BadFlag r h =
-    let (rest, behind, band, power) = h.1.0 in
-    record { applies = h.1.1; first = denied line 10 (λ lt. r.short) (λ lt. r.utf8) (λ lt. h.0) (λ lt lacks. lacks rest band) (λ lt lacks. lacks rest behind band power) (out_of 10 10 (omega arith)) (omega arith) }
+    let (rest, behind, band, power) = h.1 in
+    record { applies = h.2; first = denied line 10 (λ lt. r.short) (λ lt. r.utf8) (λ lt. h.0) (λ lt lacks. lacks rest band) (λ lt lacks. lacks rest behind band power) (out_of 10 10 (omega arith)) (omega arith) }
 bare-fault line FlagNotInVersion r (opens, t, rule, spelled, none, unkept) =
     let band = spelled-band (bare line) t rule spelled in
     let power = spelled-power (bare line) t rule spelled in
@@ -147,6 +152,7 @@ bare-rule line rule r h = record { is = h.is; good = good }
   where
     spelled : IsSpelledRule (bare line) h.is.text rule
     spelled = h.is.is
+
     good : (kind : TextKind) → AppliesToRule line kind → ⊥
     good LineTooLong a = omega (arith, a, r.short)
     good NotUtf8 a = a r.utf8

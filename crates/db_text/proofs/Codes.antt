@@ -1,9 +1,9 @@
 -- The codes and the region of a header.
-use Rattle.std.proofs.Common.{◌≡◌, ◌≢◌, ℕ, ◌+◌, ◌<◌, ◌≤◌, List, [], ◌∷◌, ◌++◌, Bool, true, false, cond, length, get_or, map, drop, Option, Some, None, ◌⊎◌, inl, inr, refl, ap, ◌∙◌, sym, subst, arith, append_assoc, append-nil, rules}
+use Rattle.std.proofs.Common.{◌≡◌, ◌≢◌, ℕ, ◌<◌, List, [], ◌∷◌, ◌++◌, true, false, length, get_or, map, drop, Option, Some, None, ◌⊎◌, inl, inr, refl, ap, ◌∙◌, sym, subst, arith, append_assoc, append-nil, rules}
 use denote.Ref.{Bor}
 use Rattle.std.specs.Option.{option_copied}
-use Rattle.std.specs.Prelude.{codes, All, ◌==◌, MatchOption}
-use Rattle.std.specs.List.{flat_map, slice_split}
+use Rattle.std.specs.Prelude.{codes, All, MatchOption}
+use Rattle.std.specs.List.{flat_map}
 use Rattle.std.proofs.lemmas.Bool.Decides.{nat_tests}
 use Rattle.std.proofs.lemmas.List.Elements.{All-append, All-cons, All-head, All-map, All-tail}
 use Rattle.std.proofs.lemmas.Option.{some_pair_parts, cond_some, same_Some}
@@ -20,7 +20,7 @@ use Rattle.db_text.specs.Spelling.{AreCodes, HasCodes, IsHeader, codes_text, reg
 use Rattle.db_text.proofs.Cuts.{parts-cut, parts-cut_by}
 use Rattle.db_text.proofs.Lists.{Lacks, listed, listed-parts, parts-listed}
 use Rattle.db_text.proofs.Names.{titled_at-again, titled_at-reads}
-use Rattle.db_text.proofs.Words.{bind_some, chosen, known, same_bytes-again, same_bytes-reads}
+use Rattle.db_text.proofs.Words.{bind_some, chosen, known, same_bytes-reads}
 
 -- ---- one code
 

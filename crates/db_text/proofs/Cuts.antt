@@ -1,11 +1,10 @@
 -- What stands before the first such byte, and what is behind it.
-use Rattle.std.proofs.Common.{◌≡◌, ◌≢◌, ℕ, ◌+◌, ◌-◌, ◌<◌, ◌≤◌, List, [], ◌∷◌, ◌++◌, Bool, true, false, length, get_or, take, drop, Option, Some, None, refl, ap, ◌∙◌, sym, arith, append_assoc, append-nil, cond}
+use Rattle.std.proofs.Common.{◌≡◌, ℕ, ◌+◌, ◌-◌, ◌<◌, ◌≤◌, List, [], ◌∷◌, ◌++◌, Bool, true, false, length, get_or, take, drop, Option, Some, None, refl, ap, ◌∙◌, arith, append_assoc, append-nil, cond}
 use Rattle.std.specs.Prelude.{All, ◌==◌}
 use Rattle.std.specs.List.{slice_split, onto_first}
 use Rattle.std.proofs.lemmas.Bool.Decides.{nat_tests}
 use Rattle.std.proofs.lemmas.List.{at_drop_more, at_drop_all, take_rest, take_all, take_more}
-use Rattle.std.proofs.lemmas.List.Elements.{All-cons, All-head, All-tail}
-use Rattle.std.proofs.lemmas.List.Splits.{slice_split-cons_yes, slice_split-cons_no}
+use Rattle.std.proofs.lemmas.List.Elements.{All-head, All-tail}
 use Rattle.std.proofs.lemmas.Option.{same_Some}
 use denote.Ref.{Bor}
 use Rattle.std.specs.Option.{option_copied}
@@ -97,9 +96,6 @@ size_left-less bs None h = omega arith
 size_left-less bs (Some rest) h = omega (arith, h)
 
 -- ---- a front without the byte
-
-
-
 
 pub front_of-again : (byte : ℕ) (xs rest : List ℕ) → All (λ b. b ≡ byte → ⊥) xs → front_of byte (xs ++ byte ∷ rest) ≡ xs
 front_of-again byte [] rest lacks = front_of-found byte rest

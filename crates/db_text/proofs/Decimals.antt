@@ -1,10 +1,10 @@
 -- Decimals: what is read is spelled so, and what is spelled so is read.
-use Rattle.std.proofs.Common.{◌≡◌, ℕ, ◌<◌, ◌≤◌, List, [], ◌∷◌, ◌++◌, Bool, true, false, cond, length, Option, Some, None, refl, ap, ◌∙◌, sym, arith, append_assoc, append-nil, rules}
-use Rattle.std.specs.Prelude.{codes, All, ◌==◌}
+use Rattle.std.proofs.Common.{◌≡◌, ℕ, ◌<◌, ◌≤◌, List, [], ◌∷◌, ◌++◌, Bool, true, false, cond, length, Option, Some, refl, ap, ◌∙◌, sym, arith, rules}
+use Rattle.std.specs.Prelude.{All, ◌==◌}
 use Rattle.std.proofs.lemmas.Bool.Decides.{nat_tests}
 use Rattle.std.proofs.lemmas.Option.{some_pair_parts}
 use Rattle.db_text.specs.Reading.{◌>>=◌, decimal_at, decimal_from, fraction_at, is_digit, number_at, scaled_within}
-use Rattle.db_text.specs.Spelling.{Decimal, IsDecimal, IsDigit, IsNumber, decimal_text, fraction_text, scaled}
+use Rattle.db_text.specs.Spelling.{Decimal, IsDecimal, IsDigit, IsNumber, fraction_text, scaled}
 use Rattle.db_text.proofs.Digits.{NoDigit, number_at-again, number_at-reads}
 use Rattle.db_text.proofs.Values.{scaled_within-again, scaled_within-reads}
 use Rattle.db_text.proofs.Words.{bind_some}

@@ -1,20 +1,18 @@
 -- What words say together.
-use Rattle.std.proofs.Common.{◌≡◌, ℕ, ◌+◌, ◌<◌, ◌≤◌, List, [], ◌∷◌, ◌++◌, Bool, true, false, ◌&&◌, cond, length, map, drop, get_or, Option, Some, None, ◌⊎◌, inl, inr, refl, ap, ◌∙◌, sym, subst, arith, rules, append-nil, append_assoc}
+use Rattle.std.proofs.Common.{◌≡◌, ℕ, ◌≤◌, List, [], ◌∷◌, ◌++◌, Bool, true, false, ◌&&◌, cond, length, map, drop, get_or, Option, Some, None, refl, ap, ◌∙◌, sym, subst, arith, rules, append-nil}
 use denote.Ref.{Bor}
 use Rattle.std.specs.Bool.{Decides}
 use Rattle.std.specs.Option.{option_copied}
-use Rattle.std.specs.Prelude.{codes, All, ◌==◌, fold, MatchOption}
-use Rattle.std.specs.List.{flat_map, list_all, slice_split}
-use Rattle.std.proofs.lemmas.Bool.{and_parts, and_from, eqb-true}
-use Rattle.std.proofs.lemmas.Bool.Decides.{nat_tests, Decides-by_and}
-use Rattle.std.proofs.lemmas.List.{length-append}
+use Rattle.std.specs.Prelude.{All, ◌==◌, fold, MatchOption}
+use Rattle.std.specs.List.{list_all}
+use Rattle.std.proofs.lemmas.Bool.{eqb-true}
+use Rattle.std.proofs.lemmas.Bool.Decides.{Decides-by_and}
 use Rattle.std.proofs.lemmas.List.Elements.{All-cons, All-head, All-map, All-tail}
-use Rattle.std.proofs.lemmas.Option.{cond_some, same_Some}
-use Rattle.freq_range.specs.declared.flags.RuleFlags.{RuleFlags}
+use Rattle.std.proofs.lemmas.Option.{same_Some}
 use Rattle.db_text.specs.declared.form.Flag.{Flag}
 use Rattle.db_text.specs.declared.form.Flag.TheVariants.{NoOfdm, NoOutdoor, Dfs, NoIr, AutoBw, NoCck, NoIndoor, PtpOnly, PtmpOnly}
 use Rattle.db_text.specs.Reading.{◌>>=◌, Gathered, behind_of, front_of, gather, gather_word, is_kept, nothing_gathered, parts_of, with_name, word_of, words_at}
-use Rattle.db_text.specs.Spelling.{AreWords, IsKept, IsKeptWord, IsName, IsWord, Word, flags_of, list_of, names_in, no_flags, with_flag, with_word, word_text, words_text}
+use Rattle.db_text.specs.Spelling.{AreWords, IsKept, IsKeptWord, IsWord, Word, flags_of, list_of, names_in, with_flag, with_word, word_text, words_text}
 use Rattle.db_text.specs.Spelling.Word.{OfFlag, OfName}
 use Rattle.db_text.proofs.Cuts.{parts-cut, parts-cut_by}
 use Rattle.db_text.proofs.Lists.{Lacks, listed, listed-parts, parts-listed}
@@ -137,7 +135,7 @@ lack_comma words each = All-map (Lacks 44) word_text words (λ i d in_range. wor
 pub parts-words : (word : Word) (words : List Word) → All IsWord (word ∷ words) → parts_of 44 (Some (word_text word ++ words_text words)) ≡ map word_text (word ∷ words)
 parts-words word words each =
     rw (← listed-words words) (
-      parts-listed (word_text word) (map word_text words) (word-lacks word (All-head IsWord word words each)) (lack_comma words (All-tail IsWord word words each)))
+    parts-listed (word_text word) (map word_text words) (word-lacks word (All-head IsWord word words each)) (lack_comma words (All-tail IsWord word words each)))
 
 -- the words that are read behind a power
 pub record ReadsWords (bs : List ℕ) (h : Gathered) : Type 0 where

@@ -1,7 +1,6 @@
 -- The items of WMM rules.
-use Rattle.std.proofs.Common.{◌≡◌, ◌≢◌, ℕ, zero, suc, ◌+◌, ◌*◌, ◌^◌, ◌<◌, ◌≤◌, List, [], ◌∷◌, ◌++◌, Bool, true, false, ◌&&◌, length, Option, Some, None, ◌⊎◌, inl, inr, refl, ap, ◌∙◌, sym, subst, arith, append_assoc, append-nil, lit<, leb, ltb}
+use Rattle.std.proofs.Common.{◌≡◌, ℕ, zero, suc, ◌+◌, ◌^◌, ◌<◌, ◌≤◌, List, [], ◌∷◌, ◌++◌, Bool, true, ◌&&◌, Option, Some, None, ◌⊎◌, inl, inr, refl, ap, ◌∙◌, sym, subst, arith, append_assoc, append-nil, lit<, leb, ltb}
 use Rattle.std.proofs.Math.Nat.{one-le-pow, pow-le-pow_right}
-use Rattle.std.specs.Bool.{Decides}
 use Rattle.std.specs.Prelude.{codes}
 use Rattle.std.proofs.lemmas.Bool.{and_from, and_parts, cases_Bool, cases_eq, cases_order, leb-true, le-leb, lt-ltb, ltb-true}
 use Rattle.std.proofs.lemmas.Nat.{pow-add}
@@ -11,7 +10,7 @@ use Rattle.freq_range.specs.declared.wmm.WmmEntry.{WmmEntry}
 use Rattle.db_text.specs.declared.form.Item.{Item}
 use Rattle.db_text.specs.declared.wmm_reader.ItemNumbers.{ItemNumbers}
 use Rattle.db_text.specs.Reading.{◌>>=◌, IsEntryOf, after_word, field_at, item_numbers, number_at, numbers_of, value_within, whole_numbers}
-use Rattle.db_text.specs.Spelling.{IsItemLine, IsNumber, ItemText, MeansEntry, item_name, item_text, value_of_digits}
+use Rattle.db_text.specs.Spelling.{IsItemLine, IsNumber, ItemText, item_name, item_text, value_of_digits}
 use Rattle.db_text.proofs.Digits.{NoDigit, number_at-again, number_at-reads}
 use Rattle.db_text.proofs.Values.{value_within-again, value_within-reads}
 use Rattle.db_text.proofs.Words.{after_word-again, after_word-reads, bind_some, known}
@@ -73,11 +72,11 @@ with_cw_max cw_min cw_max = field_at (codes ",aifsn=") 255 cw_max.1 >>= with_aif
 abbrev with_cw_min : ℕ × List ℕ → Option ItemNumbers
 with_cw_min cw_min = field_at (codes ",cw_max=") 32767 cw_min.1 >>= with_cw_max cw_min
 
-abbrev item_cells : List ℕ → ItemText → List ℕ
+abbrev pub item_cells : List ℕ → ItemText → List ℕ
 item_cells name t =
     name ++ (codes ":cw_min=" ++ (t.cw_min ++ (codes ",cw_max=" ++ (t.cw_max ++ (codes ",aifsn=" ++ (t.aifsn ++ (codes ",cot=" ++ (t.cot ++ []))))))))
 
-item-cells : (item : Item) (t : ItemText) → item_text item t ≡ item_cells (item_name item) t
+pub item-cells : (item : Item) (t : ItemText) → item_text item t ≡ item_cells (item_name item) t
 item-cells item t = from (item_name item)
   where
     from : (name : List ℕ) → name ++ codes ":cw_min=" ++ t.cw_min ++ codes ",cw_max=" ++ t.cw_max ++ codes ",aifsn=" ++ t.aifsn ++ codes ",cot=" ++ t.cot ≡ item_cells name t
@@ -119,17 +118,17 @@ item_numbers-reads item line numbers e =
     let text : ItemText = record { cw_min = cw_min.digits; cw_max = cw_max.digits; aifsn = aifsn.digits; cot = cot.digits } in
     let joined = item_joined line name.0 one.0.1 two.0.1 three.0.1 four.0.1 (item_name item) text (after_word-reads (item_name item) line name.0 name.1) cw_min.parts cw_max.parts aifsn.parts cot.parts end.0 in
     subst (ReadsItem item line) end.1 (record {
-        text = text;
-        spelled = joined ∙ sym (item-cells item text);
-        cw_min_number = cw_min.number;
-        cw_max_number = cw_max.number;
-        aifsn_number = aifsn.number;
-        cot_number = cot.number;
-        cw_min = cw_min.value;
-        cw_max = cw_max.value;
-        aifsn = aifsn.value;
-        cot = cot.value;
-      })
+      text = text;
+      spelled = joined ∙ sym (item-cells item text);
+      cw_min_number = cw_min.number;
+      cw_max_number = cw_max.number;
+      aifsn_number = aifsn.number;
+      cot_number = cot.number;
+      cw_min = cw_min.value;
+      cw_max = cw_max.value;
+      aifsn = aifsn.value;
+      cot = cot.value;
+    })
 
 numbers-again : (item : Item) (t : ItemText) → IsNumber t.cw_min → IsNumber t.cw_max → IsNumber t.aifsn → IsNumber t.cot → value_of_digits t.cw_min ≤ 32767 → value_of_digits t.cw_max ≤ 32767 → value_of_digits t.aifsn ≤ 255 → value_of_digits t.cot ≤ 65535 → item_numbers item (item_text item t) ≡ Some (numbers_from (value_of_digits t.cw_min) (value_of_digits t.cw_max) (value_of_digits t.aifsn) (value_of_digits t.cot))
 unfolding item_numbers numbers_of
@@ -257,9 +256,9 @@ valid-reads e t =
 valid-again : (e : WmmEntry) → IsValidEntry e → valid_test e ≡ true
 valid-again e h =
     and_from (ltb e.min_exp e.max_exp) (leb e.max_exp 15 && (leb 1 e.aifsn && (ltb e.aifsn 256 && ltb e.cot_ms 65536))) (lt-ltb _ _ h.in_order) (
-      and_from (leb e.max_exp 15) (leb 1 e.aifsn && (ltb e.aifsn 256 && ltb e.cot_ms 65536)) (le-leb _ _ h.window_fits) (
-        and_from (leb 1 e.aifsn) (ltb e.aifsn 256 && ltb e.cot_ms 65536) (le-leb _ _ h.waits) (
-          and_from (ltb e.aifsn 256) (ltb e.cot_ms 65536) (lt-ltb _ _ h.aifsn_fits) (lt-ltb _ _ h.cot_fits))))
+    and_from (leb e.max_exp 15) (leb 1 e.aifsn && (ltb e.aifsn 256 && ltb e.cot_ms 65536)) (le-leb _ _ h.window_fits) (
+    and_from (leb 1 e.aifsn) (ltb e.aifsn 256 && ltb e.cot_ms 65536) (le-leb _ _ h.waits) (
+    and_from (ltb e.aifsn 256) (ltb e.cot_ms 65536) (lt-ltb _ _ h.aifsn_fits) (lt-ltb _ _ h.cot_fits))))
 
 decide_valid : (numbers : ItemNumbers) (a b : ℕ) → numbers.cw_min + 1 ≡ 2 ^ a → numbers.cw_max + 1 ≡ 2 ^ b → ((e : WmmEntry) × IsEntryOf numbers e) ⊎ ((e : WmmEntry) → IsEntryOf numbers e → ⊥)
 decide_valid numbers a b p q =

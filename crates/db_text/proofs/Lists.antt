@@ -1,11 +1,11 @@
 -- Lists whose parts each stand behind a comma.
-use Rattle.std.proofs.Common.{◌≡◌, ℕ, ◌<◌, List, [], ◌∷◌, ◌++◌, Bool, true, false, length, drop, map, Option, Some, None, refl, ap, ◌∙◌, sym, cond, append-nil, arith, not, ◌&&◌, rules}
+use Rattle.std.proofs.Common.{◌≡◌, ℕ, List, [], ◌∷◌, ◌++◌, Bool, true, false, drop, Some, refl, ap, ◌∙◌, cond, append-nil, arith, not, rules}
 use Rattle.std.specs.Prelude.{All, ◌==◌}
 use Rattle.std.specs.List.{slice_split, onto_first, flat_map, list_all}
 use Rattle.std.proofs.lemmas.Bool.{and_parts, eqb-false, not-true}
 use Rattle.std.proofs.lemmas.Bool.Decides.{nat_tests}
 use Rattle.std.proofs.lemmas.List.Elements.{All-cons, All-head, All-tail}
-use Rattle.db_text.specs.Reading.{parts_of, front_of, behind_of}
+use Rattle.db_text.specs.Reading.{parts_of}
 use Rattle.db_text.proofs.Cuts.{parts-cut, front_of-again, behind_of-again, front_of-whole, behind_of-none}
 
 -- the parts, each behind a comma
@@ -37,7 +37,7 @@ parts-listed part [] lacks each = rw append-nil (parts-cut 44 part ∙ rw (front
 parts-listed part (next ∷ parts) lacks each =
     parts-cut 44 (part ++ (44 ∷ (next ++ listed parts)))
     ∙ rw (front_of-again 44 part (next ++ listed parts) lacks, behind_of-again 44 part (next ++ listed parts) lacks) (
-      ap (λ (xs : List (List ℕ)). part ∷ xs) (parts-listed next parts (All-head (Lacks 44) next parts each) (All-tail (Lacks 44) next parts each)))
+    ap (λ (xs : List (List ℕ)). part ∷ xs) (parts-listed next parts (All-head (Lacks 44) next parts each) (All-tail (Lacks 44) next parts each)))
 
 -- ---- a list without a byte, by a test
 

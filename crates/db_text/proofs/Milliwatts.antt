@@ -1,5 +1,5 @@
 -- Each number of milliwatts within the range has a value in mBm.
-use Rattle.std.proofs.Common.{◌≡◌, ℕ, zero, suc, ◌+◌, ◌-◌, ◌*◌, ◌/◌, ◌^◌, ◌<◌, ◌≤◌, ◌⊎◌, inl, inr, arith, refl, sym, ap, ◌∙◌, add-one}
+use Rattle.std.proofs.Common.{◌≡◌, ℕ, zero, suc, ◌+◌, ◌-◌, ◌*◌, ◌/◌, ◌^◌, ◌<◌, ◌≤◌, ◌⊎◌, inl, inr, arith, refl, ap, ◌∙◌}
 use Rattle.std.proofs.lemmas.Bool.{cases_lt}
 use Rattle.freq_range.specs.Power.{IsDecimal, IsMbm, IsMilliwatts, power}
 use Rattle.freq_range.proofs.Powers.{digits_least, is_decimal, left_least, left_most, mantissa_least, mantissa_most, power-more, power-none, product_least, product_most, ten_more}

@@ -1,17 +1,16 @@
 -- Names of WMM rules, and their headers.
-use Rattle.std.proofs.Common.{◌≡◌, ◌≢◌, ℕ, ◌<◌, ◌≤◌, List, [], ◌∷◌, ◌++◌, Bool, true, false, ◌&&◌, ◌||◌, cond, length, leb, Option, Some, None, ◌⊎◌, inl, inr, refl, ap, ◌∙◌, sym, arith, append-nil, append_assoc, subst}
+use Rattle.std.proofs.Common.{◌≡◌, ℕ, List, [], ◌∷◌, ◌++◌, true, ◌&&◌, length, leb, Option, Some, None, ◌⊎◌, inl, inr, refl, ap, ◌∙◌, sym, arith, subst}
 use Rattle.std.specs.Prelude.{codes, All}
 use Rattle.std.specs.Bool.{Decides}
 use Rattle.std.specs.List.{list_all}
 use Rattle.std.proofs.lemmas.Bool.{and_parts, and_from, leb-true, le-leb}
 use Rattle.std.proofs.lemmas.Bool.Decides.{nat_tests, Decides-by_and}
-use Rattle.std.proofs.lemmas.List.Elements.{All-cons, All-head, All-tail}
 use Rattle.std.proofs.lemmas.Option.{some_pair_parts, cond_some, same_Some}
-use Rattle.db_text.specs.Reading.{◌>>=◌, after_byte, after_word, behind_of, front_of, is_name, is_name_byte, titled_at, whole_title, wmm_name_at, same_bytes}
+use Rattle.db_text.specs.Reading.{◌>>=◌, after_word, behind_of, front_of, is_name, is_name_byte, titled_at, whole_title, wmm_name_at, same_bytes}
 use Rattle.db_text.specs.Spelling.{IsName, IsNameByte, IsWmmHeader}
 use Rattle.db_text.proofs.Cuts.{behind_of-again, cut-reads, front_of-again}
 use Rattle.db_text.proofs.Lists.{Lacks}
-use Rattle.db_text.proofs.Words.{after_word-again, after_word-reads, bind_some, known, same_bytes-again, same_bytes-reads}
+use Rattle.db_text.proofs.Words.{after_word-again, after_word-reads, bind_some, known, same_bytes-reads}
 
 -- ---- names
 

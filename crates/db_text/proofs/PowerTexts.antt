@@ -1,19 +1,19 @@
 -- Powers: what is read is spelled so, and what is spelled so is read.
-use Rattle.std.proofs.Common.{◌≡◌, ◌≢◌, ℕ, ◌<◌, ◌≤◌, List, [], ◌∷◌, ◌++◌, Bool, true, false, ◌&&◌, cond, length, Option, Some, None, refl, ap, ◌∙◌, sym, subst, arith, append_assoc}
+use Rattle.std.proofs.Common.{◌≡◌, ◌≢◌, ℕ, ◌<◌, ◌≤◌, List, [], ◌∷◌, ◌++◌, Bool, true, false, cond, Option, Some, None, refl, ap, ◌∙◌, sym, subst, arith, append_assoc}
 use Rattle.std.specs.Prelude.{codes, All, ◌==◌}
-use Rattle.std.proofs.lemmas.Bool.{cases_eq, eqb-true, ne_eqb}
+use Rattle.std.proofs.lemmas.Bool.{ne_eqb}
 use Rattle.std.proofs.lemmas.Bool.Decides.{nat_tests}
 use Rattle.std.proofs.lemmas.List.Elements.{All-head, All-tail}
-use Rattle.std.proofs.lemmas.Option.{cond_some, same_Some, some_pair_parts}
-use Rattle.freq_range.specs.Power.{IsMbm, IsMilliwatts}
+use Rattle.std.proofs.lemmas.Option.{some_pair_parts}
+use Rattle.freq_range.specs.Power.{IsMilliwatts}
 use Rattle.db_text.specs.declared.power_reader.Amount.{Amount}
 use Rattle.db_text.specs.declared.power_reader.Amount.TheVariants.{Mbm, Milliwatts}
-use Rattle.db_text.specs.Reading.{◌>>=◌, IsAmount, MeansMbm, after_byte, after_word, amount_at, amount_from, behind_gain, decimal_from, is_digit, mbm_of, milliwatts_of, number_at, or_all, power_at, value_within}
-use Rattle.db_text.specs.Spelling.{BeginsWithPower, Decimal, Gain, IsDecimal, IsDigit, IsNumber, IsPower, Power, fraction_text, gain_text, power_part, power_text, scaled, value_of_digits}
+use Rattle.db_text.specs.Reading.{◌>>=◌, IsAmount, MeansMbm, after_byte, after_word, amount_at, amount_from, behind_gain, decimal_from, mbm_of, milliwatts_of, number_at, or_all, power_at, value_within}
+use Rattle.db_text.specs.Spelling.{Gain, IsDecimal, IsDigit, IsNumber, IsPower, Power, fraction_text, gain_text, power_part, power_text, scaled, value_of_digits}
 use Rattle.db_text.specs.Spelling.Gain.{NoGain, UnknownGain, ZeroGain}
 use Rattle.db_text.specs.Spelling.Power.{Dbm, Milliwatts as OfMilliwatts}
-use Rattle.db_text.proofs.Decimals.{EndsDecimal, ReadsDecimal, decimal, decimal_from-again, decimal_from-reads, fraction-no_digit}
-use Rattle.db_text.proofs.Digits.{NoDigit, number_at-again, number_at-reads}
+use Rattle.db_text.proofs.Decimals.{EndsDecimal, decimal, decimal_from-again, decimal_from-reads, fraction-no_digit}
+use Rattle.db_text.proofs.Digits.{number_at-again, number_at-reads}
 use Rattle.db_text.proofs.Values.{value_within-again, value_within-reads}
 use Rattle.db_text.proofs.Words.{after_byte-again, after_byte-reads, after_word-again, after_word-reads, bind_some}
 

@@ -1,9 +1,6 @@
 -- The line of a rule: what is read of it, part by part, and what its first bad part says.
-use Rattle.std.proofs.Common.{◌≡◌, ◌≢◌, ℕ, ◌<◌, ◌≤◌, List, [], ◌∷◌, ◌++◌, Bool, true, false, length, get_or, Option, Some, None, ◌⊎◌, inl, inr, refl, ap, ◌∙◌, sym, subst, arith, append_assoc}
-use Rattle.std.specs.Prelude.{codes, All}
-use Rattle.std.proofs.lemmas.Option.{same_Some, some_pair_parts}
-use Rattle.freq_range.specs.Power.{IsMbm}
-use Rattle.freq_range.specs.declared.flags.RuleFlags.{RuleFlags}
+use Rattle.std.proofs.Common.{◌≡◌, ℕ, List, [], ◌++◌, Bool, true, false, get_or, Option, Some, None, ◌⊎◌, inl, inr, refl, ap, ◌∙◌, sym, subst, append_assoc}
+use Rattle.std.proofs.lemmas.Option.{some_pair_parts}
 use Rattle.freq_range.specs.declared.rule.Rule.{Rule}
 use Rattle.freq_range.proofs.Powers.{one_mbm}
 use Rattle.db_text.specs.declared.band_reader.Band.{Band}
@@ -11,9 +8,8 @@ use Rattle.db_text.specs.declared.fault.TextKind.{TextKind}
 use Rattle.db_text.specs.declared.fault.TextKind.TheVariants.{LineTooLong, NotUtf8, BadLine, NoBlock, BadCountry, BadRegion, RegionDiffers, BadBand, BadPower, BadFlag, FlagNotInVersion, NoWmm, BadWmm, WmmTwice, TooManyRules, WmmShort, NoRules}
 use Rattle.db_text.specs.declared.power_reader.Amount.{Amount}
 use Rattle.db_text.specs.declared.power_reader.Amount.TheVariants.{Mbm, Milliwatts}
-use Rattle.db_text.specs.Faults.{HasUnkeptFlag, LacksBand, LacksPower, LacksWords}
 use Rattle.db_text.specs.Reading.{Gathered, IsAmount, IsPartKind, IsRuleKind, IsSpelledAs, MeansMbm, band_at, power_at, rule_from, words_at}
-use Rattle.db_text.specs.Spelling.{AreWords, BeginsWithBand, BeginsWithPower, IsKeptWord, IsRuleLine, IsSpelledRule, RuleText, Word, band_text, list_of, names_in, power_part, words_text}
+use Rattle.db_text.specs.Spelling.{BeginsWithBand, BeginsWithPower, IsRuleLine, IsSpelledRule, RuleText, band_text, list_of, names_in, power_part, words_text}
 use Rattle.db_text.proofs.Bands.{band-begins, band_at-again, band_at-none, band_at-reads, band_of}
 use Rattle.db_text.proofs.Gathering.{AreWords-unique, kept-all, unkept-some, words_at-again, words_at-reads}
 use Rattle.db_text.proofs.Milliwatts.{mbm_of_milliwatts}
@@ -123,8 +119,7 @@ IsSpelledRule-unique line t u r s p q =
     let bands = some_pair_parts (band_of r.start_khz r.end_khz r.max_bw_khz) (band_of s.start_khz s.end_khz s.max_bw_khz) one.behind other.behind (sym one.band_read ∙ other.band_read) in
     let powers = some_pair_parts one.amount other.amount (words_text t.words) (words_text u.words) (sym one.power_read ∙ ap power_at bands.1 ∙ other.power_read) in
     let words : t.words ≡ u.words = AreWords-unique (words_text u.words) t.words u.words (record { each = p.words.each; one_name = p.words.one_name; spelled = sym powers.1 }) q.words in
-    let flags : r.flags ≡ s.flags = p.flags ∙ rw words (sym q.flags) in
-    (
+    let flags : r.flags ≡ s.flags = p.flags ∙ rw words (sym q.flags) in (
       words,
       same-rule r s (ap (λ (b : Band). b.start_khz) bands.0) (ap (λ (b : Band). b.end_khz) bands.0) (ap (λ (b : Band). b.width_khz) bands.0) flags (one_power one.amount other.amount r.eirp_mbm s.eirp_mbm powers.0 one.means other.means) (p.check_time ∙ sym q.check_time) (p.wmm ∙ sym q.wmm),
     )
@@ -151,6 +146,7 @@ decide_spelled line = known (band_at line) (λ none. inr (BadBand, no_band line 
   where
     range : (rest : List ℕ) (amount : Amount) (behind : List ℕ) → power_at rest ≡ Some (amount, behind) → IsAmount amount
     range rest amount behind f = let read = power_at-reads rest amount behind f in amount-range read.power amount read.is
+
     at_words : (band : Band) (rest : List ℕ) (amount : Amount) (behind : List ℕ) → band_at line ≡ Some (band, rest) → power_at rest ≡ Some (amount, behind) → (mbm : ℕ) × MeansMbm amount mbm → ((rule : Rule) × (name : Option (List ℕ)) × (kept : Bool) × IsSpelledAs line rule name kept) ⊎ ((kind : TextKind) × IsPartKind line kind)
     at_words band rest amount behind e f (mbm, means) = known (words_at behind) (λ none. inr (BadFlag, no_words line band rest amount behind mbm e f means none)) (λ g k. inl (rule_from band mbm g.flags, g.name, g.kept, spelled-reads line band rest amount behind mbm g e f means k))
 

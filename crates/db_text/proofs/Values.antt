@@ -1,5 +1,5 @@
 -- The values of digits, and limits on them.
-use Rattle.std.proofs.Common.{◌≡◌, ℕ, ◌+◌, ◌-◌, ◌*◌, ◌^◌, ◌<◌, ◌≤◌, min, List, [], ◌∷◌, ◌++◌, Bool, true, false, length, get_or, drop, Option, Some, None, refl, ap, ◌∙◌, sym, arith, le_refl, lit<, inl, inr, cond, leb, ◌&&◌}
+use Rattle.std.proofs.Common.{◌≡◌, ℕ, ◌+◌, ◌-◌, ◌*◌, ◌^◌, ◌<◌, ◌≤◌, min, List, [], ◌∷◌, Bool, true, false, length, get_or, drop, Option, Some, None, refl, ap, ◌∙◌, sym, arith, le_refl, lit<, inl, inr, cond, leb, ◌&&◌}
 use Rattle.std.proofs.Math.Nat.{one-le-pow}
 use Rattle.std.proofs.lemmas.Bool.{cases_lt}
 use Rattle.std.proofs.lemmas.Bool.Decides.{nat_tests}

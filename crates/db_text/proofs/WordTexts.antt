@@ -1,17 +1,17 @@
 -- Words behind a power: what is read is spelled so, and what is spelled so is read.
-use Rattle.std.proofs.Common.{◌≡◌, ℕ, ◌<◌, ◌≤◌, List, [], ◌∷◌, ◌++◌, Bool, true, false, ◌&&◌, cond, length, Option, Some, None, refl, ap, ◌∙◌, sym, subst, arith, not}
-use Rattle.std.specs.Prelude.{codes, All, ◌==◌}
+use Rattle.std.proofs.Common.{◌≡◌, ℕ, List, true, Option, Some, None, refl, subst, not}
+use Rattle.std.specs.Prelude.{codes, ◌==◌}
 use Rattle.std.specs.List.{list_all}
 use Rattle.std.proofs.lemmas.List.Elements.{All-append}
 use Rattle.std.proofs.lemmas.Option.{cond_some, same_Some}
 use Rattle.db_text.specs.declared.form.Flag.{Flag}
 use Rattle.db_text.specs.declared.form.Flag.TheVariants.{NoOfdm, NoOutdoor, Dfs, NoIr, AutoBw, NoCck, NoIndoor, PtpOnly, PtmpOnly}
-use Rattle.db_text.specs.Reading.{◌>>=◌, after_byte, after_word, flag_of, flag_or_name, is_name, name_word, same_bytes, word_of}
+use Rattle.db_text.specs.Reading.{after_byte, after_word, flag_of, flag_or_name, is_name, name_word, same_bytes, word_of}
 use Rattle.db_text.specs.Spelling.{IsName, IsWord, Word, flag_name, word_text}
 use Rattle.db_text.specs.Spelling.Word.{OfFlag, OfName}
 use Rattle.db_text.proofs.Lists.{Lacks, lacks-by}
 use Rattle.db_text.proofs.Names.{is_name-again, is_name-reads, name-lacks, no_comma}
-use Rattle.db_text.proofs.Words.{after_word-reads, bind_some, chosen, known, same_bytes-reads}
+use Rattle.db_text.proofs.Words.{after_word-reads, bind_some, chosen, same_bytes-reads}
 
 flag_of-reads : (bs : List ℕ) (flag : Flag) → flag_of bs ≡ Some flag → bs ≡ flag_name flag
 unfolding flag_of

@@ -1,6 +1,6 @@
 -- How a squeezed line is read from left to right, and which kind is told of one that isn't read. The first part is the
 -- program's steps again: only clauses of private functions cite it, and the laws of proofs/ tie it to what Spelling says.
-use Rattle.std.specs.Prelude.{◌≡◌, ◌≢◌, ℕ, ◌+◌, ◌-◌, ◌*◌, ◌^◌, ◌<◌, ◌≤◌, ◌==◌, ◌&&◌, ◌||◌, nat_eq, nat_le, nat_lt, Bool, true, false, not, List, [], ◌∷◌, ◌++◌, length, All, Option, Some, None, option_map, fold, codes, if◌then◌else◌, IsUtf8}
+use Rattle.std.specs.Prelude.{◌≡◌, ◌≢◌, ℕ, ◌+◌, ◌-◌, ◌*◌, ◌^◌, ◌<◌, ◌≤◌, ◌==◌, ◌&&◌, ◌||◌, nat_eq, nat_le, nat_lt, Bool, true, false, List, [], ◌∷◌, length, All, Option, Some, None, option_map, fold, codes, if◌then◌else◌, IsUtf8}
 use Rattle.std.specs.Cmp.Lexicographic.{pointwise}
 use Rattle.std.specs.List.{list_all, slice_split}
 use Rattle.freq_range.specs.Power.{IsMbm, IsMilliwatts}
@@ -14,7 +14,7 @@ use Rattle.rule_tables.specs.declared.code.Region.TheVariants.{Unset, Fcc, Etsi,
 use Rattle.db_text.specs.declared.fault.LineStop.{LineStop}
 use Rattle.db_text.specs.declared.fault.LineStop.TheVariants.{Kind, OutOfMemory}
 use Rattle.db_text.specs.declared.fault.TextKind.{TextKind}
-use Rattle.db_text.specs.declared.fault.TextKind.TheVariants.{LineTooLong, NotUtf8, BadLine, NoBlock, BadCountry, BadRegion, RegionDiffers, BadBand, BadPower, BadFlag, FlagNotInVersion, NoWmm, BadWmm, WmmTwice, TooManyRules, WmmShort, NoRules}
+use Rattle.db_text.specs.declared.fault.TextKind.TheVariants.{LineTooLong, NotUtf8, BadLine, BadCountry, BadRegion, BadBand, BadPower, BadFlag, FlagNotInVersion}
 use Rattle.db_text.specs.declared.form.Flag.{Flag}
 use Rattle.db_text.specs.declared.form.Flag.TheVariants.{NoOfdm, NoOutdoor, Dfs, NoIr, AutoBw, NoCck, NoIndoor, PtpOnly, PtmpOnly}
 use Rattle.db_text.specs.declared.form.Item.{Item}
@@ -29,7 +29,7 @@ use Rattle.db_text.specs.declared.rule_words.Word.{Word as ReadWord}
 use Rattle.db_text.specs.declared.rule_words.Word.TheVariants.{Flag as ReadFlag, Name as ReadName}
 use Rattle.db_text.specs.declared.wmm_reader.ItemNumbers.{ItemNumbers}
 use Rattle.db_text.specs.Faults.{HasUnkeptFlag, LacksBand, LacksPower, LacksWords}
-use Rattle.db_text.specs.Spelling.{BeginsWithBand, BeginsWithPower, Decimal, HasCodes, IsHeader, IsKeptWord, IsRuleLine, IsSpelledRule, Opens, RuleText, Word, flag_name, item_name, list_of, names_in, no_flags, region_name, scaled, value_of_digits, with_flag}
+use Rattle.db_text.specs.Spelling.{BeginsWithBand, BeginsWithPower, HasCodes, IsHeader, IsKeptWord, IsRuleLine, IsSpelledRule, Opens, RuleText, Word, item_name, list_of, names_in, no_flags, scaled, value_of_digits, with_flag}
 use Rattle.db_text.specs.Spelling.Word.{OfFlag, OfName}
 
 -- ---- which kind is told

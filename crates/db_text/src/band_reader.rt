@@ -39,7 +39,14 @@ pub fn band_at(bytes: &[u8]) -> Option<(Band, &[u8])>
     let (width_khz, rest) = khz_behind(rest, b'@')?;
     let rest = after_byte(rest, b')')?;
     if 0 < start_khz && start_khz < end_khz && width_khz <= end_khz - start_khz {
-        Some((Band { start_khz, end_khz, width_khz }, rest))
+        Some((
+            Band {
+                start_khz,
+                end_khz,
+                width_khz,
+            },
+            rest,
+        ))
     } else {
         None
     }

@@ -7,6 +7,7 @@ mod countries;
 mod country_header;
 mod fault;
 mod form;
+mod laws;
 mod late;
 mod lines;
 mod map_values;
@@ -23,5 +24,6 @@ mod wmm_reader;
 mod wmm_rules;
 
 pub use fault::{ParseFault, RuleTextFault, TextFault, TextKind};
+pub use laws::one_answer;
 pub use rule_line::parse_rule;
 pub use text::parse;

@@ -69,7 +69,12 @@ fn fraction_at(bytes: &[u8]) -> Option<(&[u8], &[u8])>
 
 /// The value of a decimal whose digits before the point were read, and what is behind it.
 #[tactic(auto, unfolding(crate::specs::Reading::decimal_from))]
-pub fn decimal_from<'a>(whole: &[u8], bytes: &'a [u8], places: usize, most: u32) -> Option<(u32, &'a [u8])>
+pub fn decimal_from<'a>(
+    whole: &[u8],
+    bytes: &'a [u8],
+    places: usize,
+    most: u32,
+) -> Option<(u32, &'a [u8])>
     requires { places ≤ 3 }
     ensures found { MatchOption result (decimal_from places most whole.now bytes.now ≡ None)
         (λ x. decimal_from places most whole.now bytes.now ≡ Some (x.0, x.1.now)) }

@@ -49,7 +49,11 @@ pub fn spelled_rule_of(line: &[u8]) -> Result<SpelledRule<'_>, TextKind>
         return Err(TextKind::BadFlag);
     };
     let rule = rule_from(band, power, words.flags);
-    Ok(SpelledRule { rule, name: words.name, is_kept: words.is_kept })
+    Ok(SpelledRule {
+        rule,
+        name: words.name,
+        is_kept: words.is_kept,
+    })
 }
 
 /// The rule and the name of its WMM rule, if it has one, or what is wrong with the line.

@@ -42,7 +42,11 @@ impl RuleWords<'_> {
 fn is_name_byte(byte: u8) -> bool
     ensures { result ≡ is_name_byte byte }
 {
-    byte.is_ascii_uppercase() || byte.is_ascii_lowercase() || byte.is_ascii_digit() || byte == b'_' || byte == b'-'
+    byte.is_ascii_uppercase()
+        || byte.is_ascii_lowercase()
+        || byte.is_ascii_digit()
+        || byte == b'_'
+        || byte == b'-'
 }
 
 /// Whether each byte may stand in a name.
@@ -96,7 +100,11 @@ fn word_of(part: &[u8]) -> Option<Word<'_>>
         return Some(Word::Flag(flag));
     }
     let name = after_word(part, b"wmmrule=")?;
-    if is_name(name) { Some(Word::Name(name)) } else { None }
+    if is_name(name) {
+        Some(Word::Name(name))
+    } else {
+        None
+    }
 }
 
 /// Whether a file of version 20 has a bit for the flag.
@@ -114,11 +122,23 @@ fn with_flag(flag: Flag, flags: RuleFlags) -> RuleFlags
     ensures { result ≡ with_flag flag flags }
 {
     match flag {
-        Flag::NoOfdm => RuleFlags { no_ofdm: true, ..flags },
-        Flag::NoOutdoor => RuleFlags { no_outdoor: true, ..flags },
+        Flag::NoOfdm => RuleFlags {
+            no_ofdm: true,
+            ..flags
+        },
+        Flag::NoOutdoor => RuleFlags {
+            no_outdoor: true,
+            ..flags
+        },
         Flag::Dfs => RuleFlags { dfs: true, ..flags },
-        Flag::NoIr => RuleFlags { no_ir: true, ..flags },
-        Flag::AutoBw => RuleFlags { auto_bw: true, ..flags },
+        Flag::NoIr => RuleFlags {
+            no_ir: true,
+            ..flags
+        },
+        Flag::AutoBw => RuleFlags {
+            auto_bw: true,
+            ..flags
+        },
         Flag::NoCck | Flag::NoIndoor | Flag::PtpOnly | Flag::PtmpOnly => flags,
     }
 }
@@ -137,7 +157,11 @@ fn gather_word<'a>(word: Word<'a>, words: RuleWords<'a>) -> Option<RuleWords<'a>
         }),
         Word::Name(name) => match words.name {
             Some(_) => None,
-            None => Some(RuleWords { flags: words.flags, name: Some(name), is_kept: words.is_kept }),
+            None => Some(RuleWords {
+                flags: words.flags,
+                name: Some(name),
+                is_kept: words.is_kept,
+            }),
         },
     }
 }

@@ -29,7 +29,11 @@ fn wmm_name_at(line: &[u8]) -> Option<&[u8]>
     ensures { MatchOption result (wmm_name_at line.now ≡ None) (λ name. wmm_name_at line.now ≡ Some name.now) }
 {
     let (name, rest) = titled_at(line, b"wmmrule")?;
-    if is_name(name) && rest.is_empty() { Some(name) } else { None }
+    if is_name(name) && rest.is_empty() {
+        Some(name)
+    } else {
+        None
+    }
 }
 
 /// The name in the header of a WMM rule, or `None` where the line is no such header.
@@ -61,7 +65,16 @@ fn numbers_of(bytes: &[u8]) -> Option<ItemNumbers>
     let (cw_max, rest) = field_at(rest, b",cw_max=", MOST_WINDOW)?;
     let (aifsn, rest) = field_at(rest, b",aifsn=", 255)?;
     let (cot, rest) = field_at(rest, b",cot=", 65_535)?;
-    if rest.is_empty() { Some(ItemNumbers { cw_min, cw_max, aifsn, cot }) } else { None }
+    if rest.is_empty() {
+        Some(ItemNumbers {
+            cw_min,
+            cw_max,
+            aifsn,
+            cot,
+        })
+    } else {
+        None
+    }
 }
 
 /// The name of an item.

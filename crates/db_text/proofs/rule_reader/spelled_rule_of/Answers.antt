@@ -16,4 +16,4 @@ pub returns : goal.returns
 returns c =
     let (amount, read, means) = c.in-Some-power_at.ensures in
     rw c.rule_from-rule.ensures (
-      spelled-reads c.args.line.now c.in-Some.band c.in-Some.rest.now amount c.in-Some-power_at.rest.now c.in-Some-power_at.power _ c.in-Some.ensures read means c.in-Some-words_at.ensures)
+    spelled-reads c.args.line.now c.in-Some.band c.in-Some.rest.now amount c.in-Some-power_at.rest.now c.in-Some-power_at.power _ c.in-Some.ensures read means c.in-Some-words_at.ensures)

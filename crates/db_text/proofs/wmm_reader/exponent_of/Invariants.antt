@@ -1,4 +1,4 @@
-use Rattle.std.proofs.Common.{◌≡◌, ◌+◌, ◌^◌, ◌<◌, ◌≢◌, ℕ}
+use Rattle.std.proofs.Common.{◌+◌, ◌^◌, ◌<◌, ◌≢◌, ℕ}
 use Rattle.db_text.proofs.wmm_reader.exponent_of.Given as goal
 
 abbrev pub invariant-loop-exponent : goal.invariant-loop-exponent
