@@ -2,15 +2,16 @@
 use Rattle.std.proofs.Common.{◌≡◌, ℕ, suc, ◌+◌, ◌<◌, ◌≤◌, List, [], ◌∷◌, ◌++◌, length, take, get_or, reverse, Option, Some, None, IfSome, MatchOption, Bor, arith, refl, sym, subst, ◌∙◌, ap, inl}
 use Rattle.std.specs.Option.{option_copied}
 use Rattle.std.proofs.lemmas.List.{append-nil, append_assoc, get_or_at, length-append, length-reverse, length_push, reverse-append, take-append-le, take_all}
-use Rattle.db_text.specs.declared.fault.LineStop.TheVariants.{Kind}
+use Rattle.db_text.specs.declared.fault.LineStop.{LineStop}
+use Rattle.db_text.specs.declared.fault.LineStop.TheVariants.{Kind, OutOfMemory}
 use Rattle.db_text.specs.declared.fault.TextKind.{TextKind}
 use Rattle.db_text.specs.declared.parser.Parser.{Parser}
 use Rattle.db_text.specs.Faults.{AreAccepted, IsLineFault}
 use Rattle.db_text.specs.Forms.{Form}
 use Rattle.db_text.specs.Forms.Form.{Country, Empty, ItemLine, RuleLine, WmmHeader}
 use Rattle.db_text.specs.Lines.{lines_of}
-use Rattle.db_text.specs.State.{AreRead, AreSound, Stands, TakesLine}
-use Rattle.db_text.specs.TextOf.{IsFirstFault, IsTextFault}
+use Rattle.db_text.specs.State.{AreRead, AreSound, IsLineStop, Stands, TakesLine, fault_at}
+use Rattle.db_text.specs.TextOf.{IsFirstFault, IsParseFault, IsTextFault}
 
 -- the lines of what is left of a text
 abbrev pub lines_left : Option (List ℕ) → List (List ℕ)
@@ -100,6 +101,11 @@ not_taken text bytes line rest number parser kind so_far cut fault =
       accepted = rw (lines, take-append-le number so_far.seen (line ∷ rest) (omega (arith, count)), take_all number so_far.seen (omega (arith, count))) so_far.accepted;
       fault = rw (lines, get_or_at so_far.seen line rest [] number count) fault;
     }))
+
+pub stopped : (text bytes line : List ℕ) (rest : List (List ℕ)) (number : ℕ) (parser : Parser) (stop : LineStop) (so_far : ReadSoFar text (Some bytes) number parser)
+    → lines_of bytes ≡ line ∷ rest → IsLineStop so_far.forms line stop → IsParseFault text (fault_at stop (number + 1))
+stopped text bytes line rest number parser (Kind kind) so_far cut stop = not_taken text bytes line rest number parser kind so_far cut stop
+stopped text bytes line rest number parser OutOfMemory so_far cut stop = tt
 
 -- what a cut leaves, whether or not a newline ended the line
 pub cut_lines : (text line : List ℕ) (rest : Option (Bor (List ℕ))) → MatchOption rest (lines_of text ≡ line ∷ []) (λ r. lines_of text ≡ line ∷ lines_of r.now)

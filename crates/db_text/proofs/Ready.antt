@@ -134,9 +134,9 @@ dropped_distinct (r ∷ rules) kept (rest, before, inr added) = subst AreDistinc
     distinct_more xs x distinct lacks i j d less in_range =
         let len = length-append xs (x ∷ []) in
         elim (cases_lt j (length xs)) [
-          | inl below ↦ rw (get_or_append_left xs (x ∷ []) i d (omega (arith, less, below)), get_or_append_left xs (x ∷ []) j d below) (distinct i j d less below)
+          | inl below ↦ rw (get_or_append_left xs (x ∷ []) d i (omega (arith, less, below)), get_or_append_left xs (x ∷ []) d j below) (distinct i j d less below)
           | inr last ↦ λ same. lacks (i, omega (arith, less, in_range, len),
-              get_or_default xs i x d (omega (arith, less, in_range, len)) ∙ sym (get_or_append_left xs (x ∷ []) i d (omega (arith, less, in_range, len))) ∙ same
+              get_or_default xs i x d (omega (arith, less, in_range, len)) ∙ sym (get_or_append_left xs (x ∷ []) d i (omega (arith, less, in_range, len))) ∙ same
               ∙ get_or_at xs x [] d j (omega (arith, last, in_range, len)))
         ]
 

@@ -18,6 +18,8 @@ use Rattle.rule_tables.specs.Code.{IsCode}
 use Rattle.rule_tables.specs.FileFormat.{DropsRepeats}
 use Rattle.rule_tables.specs.Databases.{IsDb, IsDomain}
 use Rattle.rule_tables.specs.declared.domain.Domain.{Domain}
+use Rattle.db_text.specs.declared.fault.ParseFault.{ParseFault}
+use Rattle.db_text.specs.declared.fault.ParseFault.TheVariants.{Text, OutOfMemory as NoMemory}
 use Rattle.db_text.specs.declared.fault.TextFault.{TextFault}
 use Rattle.db_text.specs.Lines.{lines_of}
 use Rattle.db_text.specs.TextOf.{IsShortAt}
@@ -257,6 +259,11 @@ pub record AreRead (text : List ℕ) (parser : Parser) : Type 0 where
   pub forms : List Form
   pub accepted : AreAccepted (reverse (lines_of text)) forms
   pub stands : Stands forms parser
+
+-- the fault of a text whose line of that number isn't taken
+abbrev pub fault_at : LineStop → ℕ → ParseFault
+fault_at (Kind kind) line = Text (record { line = line; kind = kind })
+fault_at OutOfMemory line = NoMemory
 
 -- all countries of the lines
 pub record AreAllCountries (forms : List Form) (countries : List Kept) : Type 0 where

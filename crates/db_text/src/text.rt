@@ -2,7 +2,7 @@
 
 ghost use Rattle.std.specs.Prelude.{◌≡◌, ◌+◌, List, length, MatchResult};
 ghost use Rattle.db_text.specs.Forms.{Form};
-ghost use Rattle.db_text.specs.State.{AreRead, AreSound, IsLineStop, Stands, TakesLine};
+ghost use Rattle.db_text.specs.State.{AreRead, AreSound, IsLineStop, Stands, TakesLine, fault_at};
 ghost use Rattle.db_text.specs.TextOf.{IsParseFault, TextOf};
 
 use crate::assemble::assemble;
@@ -35,6 +35,16 @@ fn take_line(
     }
 }
 
+/// The fault of a text whose line of that number isn't taken.
+fn fault_at(stop: LineStop, line: u64) -> ParseFault
+    ensures { result ≡ fault_at stop line }
+{
+    match stop {
+        LineStop::Kind(kind) => ParseFault::Text(TextFault { line, kind }),
+        LineStop::OutOfMemory => ParseFault::OutOfMemory,
+    }
+}
+
 /// What the lines of the text say.
 fn read_lines(alloc: Global, text: &[u8]) -> Result<Parser, ParseFault>
     ensures { MatchResult result (AreRead text.now) (IsParseFault text.now) }
@@ -46,13 +56,10 @@ fn read_lines(alloc: Global, text: &[u8]) -> Result<Parser, ParseFault>
     while let Some(bytes) = left {
         let (line, rest) = cut_line(bytes);
         number += 1;
-        match take_line(alloc, &mut parser, &mut buffer, line, number) {
-            Ok(()) => left = rest,
-            Err(LineStop::Kind(kind)) => {
-                return Err(ParseFault::Text(TextFault { line: number, kind }));
-            }
-            Err(LineStop::OutOfMemory) => return Err(ParseFault::OutOfMemory),
+        if let Err(stop) = take_line(alloc, &mut parser, &mut buffer, line, number) {
+            return Err(fault_at(stop, number));
         }
+        left = rest;
     }
     Ok(parser)
 }
