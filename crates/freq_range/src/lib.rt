@@ -4,9 +4,11 @@
 mod errors;
 mod flags;
 mod list;
+mod power;
 mod rule;
 
 pub use errors::OutOfMemory;
 pub use flags::RuleFlags;
 pub use list::{RuleList, contains_rule};
+pub use power::mw_to_mbm;
 pub use rule::Rule;
