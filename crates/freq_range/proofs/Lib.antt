@@ -1,2 +1,3 @@
+pub mod ChannelTable
 pub mod Members
 pub mod Powers
