@@ -34,10 +34,12 @@ pub fn channel_khz(band: Band, n: u8) -> Option<u32>
 /// The band and the number of the channel with this centre, in kHz
 /// (`ieee80211_freq_khz_to_channel`). `None` exactly where the table has no such channel.
 pub fn khz_channel(khz: u32) -> Option<(Band, u8)>
-    ensures table { MatchOption result ((band : Band) (n : ℕ) → IsChannel band n khz → ⊥) (λ c. IsChannel c.0 c.1 khz) }
-    ensures only { IfSome result (λ c. (band : Band) (n : ℕ) → IsChannel band n khz → (band ≡ c.0) × (n ≡ c.1)) }
+    ensures table { MatchOption result ((band : Band) (n : ℕ) → IsChannel band n khz → ⊥)
+        (λ c. IsChannel c.0 c.1 khz) }
+    ensures only { IfSome result
+        (λ c. (band : Band) (n : ℕ) → IsChannel band n khz → (band ≡ c.0) × (n ≡ c.1)) }
 {
-    let (band, n) = nearest(khz);
+    let (band, n) = candidate(khz);
     let n = u8::try_from(n).ok()?;
     match channel_khz(band, n) {
         Some(centre_khz) if centre_khz == khz => Some((band, n)),
@@ -46,8 +48,9 @@ pub fn khz_channel(khz: u32) -> Option<(Band, u8)>
 }
 
 /// The one channel that can have this centre, in kHz.
-fn nearest(khz: u32) -> (Band, u32)
-    ensures { (band : Band) (n : ℕ) → IsChannel band n khz → (band ≡ result.0) × (n ≡ result.1) × (n < 256) }
+fn candidate(khz: u32) -> (Band, u32)
+    ensures { (band : Band) (n : ℕ) → IsChannel band n khz
+        → (band ≡ result.0) × (n ≡ result.1) × (n < 256) }
 {
     if khz == 2_484_000 {
         (Band::Ghz2, 14)
