@@ -93,9 +93,9 @@ fn centre_by(word: IwWord, control_khz: u32) -> Option<u32>
     }
 }
 
-/// The centre of the first block that covers the control channel, all in kHz.
+/// The centre of the block that covers the control channel, all in kHz.
 fn block_round(blocks: &[u32], width_khz: u32, control_khz: u32) -> Option<u32>
-    ensures first { MatchOption result
+    ensures covering { MatchOption result
         ((centre : ℕ) → Contains blocks.now centre → IsInside width_khz centre control_khz → ⊥)
         (λ centre. Contains blocks.now centre × IsInside width_khz centre control_khz) }
     ensures fits { IfSome result (λ centre. centre < 2 ^ 32) }

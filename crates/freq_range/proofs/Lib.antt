@@ -1,3 +1,2 @@
-pub mod ChannelTable
 pub mod Members
 pub mod Powers

@@ -10,5 +10,5 @@ loop-block-preserved c =
     c.loop-block.invariant
     (iff_false c.is_inside.ensures c.if-is_inside.false)
 
-pub returns-clause-first : goal.returns-clause-first
-returns-clause-first c = none_inside _ _ _ (λ k below. c.loop-block.invariant k (omega (arith, c.loop-block-test.false, below)))
+pub returns-clause-covering : goal.returns-clause-covering
+returns-clause-covering c = none_inside _ _ _ (λ k below. c.loop-block.invariant k (omega (arith, c.loop-block-test.false, below)))
