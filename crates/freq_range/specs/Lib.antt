@@ -1,3 +1,4 @@
+pub mod Channels
 pub mod First
 pub mod Power
 pub mod Valid

@@ -1,16 +1,20 @@
-//! Regulatory rules: a range of frequencies, a width, a power and flags.
+//! Regulatory rules: a range of frequencies, a width, a power, flags and WMM; and the channel table.
 #![tactic(auto)]
 
+mod channel;
 mod errors;
 mod flags;
 mod list;
 mod power;
+mod range;
 mod rule;
 mod wmm;
 
+pub use channel::{Band, channel_khz, khz_channel};
 pub use errors::OutOfMemory;
 pub use flags::RuleFlags;
 pub use list::{RuleList, contains_rule};
 pub use power::mw_to_mbm;
+pub use range::Range;
 pub use rule::Rule;
 pub use wmm::{Wmm, WmmEntry};

@@ -1,0 +1,11 @@
+-- Which kinds of interfaces send first.
+use Rattle.std.specs.Prelude.{Bool, true, false}
+use Rattle.chan_def.specs.declared.kind.Kind.{Kind}
+use Rattle.chan_def.specs.declared.kind.Kind.TheVariants.{Ap, Ibss, Mesh, Station, Monitor}
+
+abbrev pub initiates : Kind → Bool
+initiates Ap = true
+initiates Ibss = true
+initiates Mesh = true
+initiates Station = false
+initiates Monitor = false

@@ -1,0 +1,3 @@
+pub mod Covered
+pub mod Kinds
+pub mod Words

@@ -1,0 +1,12 @@
+//! Channels of 20 to 160 MHz, the channels of 20 MHz that they cover, and kinds of interfaces.
+#![tactic(auto)]
+
+mod definition;
+mod iw_word;
+mod kind;
+mod width;
+
+pub use definition::{ChanDef, covers, subchannels};
+pub use iw_word::from_iw_word;
+pub use kind::Kind;
+pub use width::Width;
