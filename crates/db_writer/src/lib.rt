@@ -1,0 +1,8 @@
+//! Lays out a database as the bytes of a `regulatory.db`.
+#![tactic(auto)]
+
+mod records;
+mod section;
+mod writer;
+
+pub use writer::WriteFault;
