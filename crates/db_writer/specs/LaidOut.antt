@@ -12,7 +12,46 @@ use Rattle.db_writer.specs.declared.records.RuleRecord.{RuleRecord}
 use Rattle.db_writer.specs.declared.writer.WriteFault.{WriteFault}
 use Rattle.db_writer.specs.declared.writer.WriteFault.TheVariants.{TooLarge, OutOfMemory}
 
--- the three sections of records: the WMM rules by their bytes, the rules, the collections
+-- Where the WMM rule w stands, in a section of WMM rules that begins at `first`.
+unfoldable pub wmm_place : ℕ → List (List ℕ) → Wmm → ℕ
+wmm_place first wmm_rules w = place_in (λ bytes. bytes) (λ bytes. 8) first wmm_rules (wmm_bytes w)
+
+-- The record of the rule r, where `wmm_at` tells where WMM rules stand; and where it stands itself.
+unfoldable pub rule_record : (Wmm → ℕ) → Rule → RuleRecord
+rule_record wmm_at r = record {
+  start_khz = r.start_khz;
+  end_khz = r.end_khz;
+  max_bw_khz = r.max_bw_khz;
+  flags = flags_byte r.flags;
+  eirp_mbm = r.eirp_mbm;
+  cac_s = r.cac_s;
+  wmm = option_map wmm_at r.wmm;
+}
+
+unfoldable pub rule_place : (Wmm → ℕ) → ℕ → List RuleRecord → Rule → ℕ
+rule_place wmm_at first rules r = place_in rule_key rule_words first rules (rule_record wmm_at r)
+
+-- The record of the collection of the domain d, where `rule_at` tells where rules stand; and where it stands itself.
+unfoldable pub collection_record : (Rule → ℕ) → Domain → CollectionRecord
+collection_record rule_at d = record { region = region_number d.region; rules = map rule_at d.rules }
+
+unfoldable pub collection_place : (Rule → ℕ) → ℕ → List CollectionRecord → Domain → ℕ
+collection_place rule_at first collections d = place_in collection_key collection_words first collections (collection_record rule_at d)
+
+-- what is in use: a rule of some domain, and what rules and domains need
+abbrev pub HasRule : List Domain → Rule → Type 0
+HasRule ds r = (d : Domain) × Contains ds d × Contains d.rules r
+
+abbrev pub UsesWmm : List Domain → List ℕ → Type 0
+UsesWmm ds bytes = (r : Rule) × (w : Wmm) × HasRule ds r × (r.wmm ≡ Some w) × (bytes ≡ wmm_bytes w)
+
+abbrev pub UsesRule : (Wmm → ℕ) → List Domain → RuleRecord → Type 0
+UsesRule wmm_at ds x = (r : Rule) × HasRule ds r × (x ≡ rule_record wmm_at r)
+
+abbrev pub UsesCollection : (Rule → ℕ) → List Domain → CollectionRecord → Type 0
+UsesCollection rule_at ds c = (d : Domain) × Contains ds d × (c ≡ collection_record rule_at d)
+
+-- the three sections of records: the WMM rules, each by its 32 bytes, the rules, the collections
 pub record Sections : Type 0 where
   pub wmm_rules : List (List ℕ)
   pub rules : List RuleRecord
@@ -29,57 +68,30 @@ first_rule ds s = first_wmm ds + 8 * length s.wmm_rules
 abbrev pub first_collection : List Domain → Sections → ℕ
 first_collection ds s = first_rule ds s + sum_by rule_words s.rules
 
--- the place of a WMM rule; the record of a rule, and its place; the record of a domain's collection, and its place
-unfoldable pub wmm_place : List Domain → Sections → Wmm → ℕ
-wmm_place ds s w = place_in (λ bytes. bytes) (λ bytes. 8) (first_wmm ds) s.wmm_rules (wmm_bytes w)
+-- where each WMM rule, each rule and the collection of each domain stands
+abbrev pub wmm_at : List Domain → Sections → Wmm → ℕ
+wmm_at ds s = wmm_place (first_wmm ds) s.wmm_rules
 
-unfoldable pub rule_record : List Domain → Sections → Rule → RuleRecord
-rule_record ds s r = record {
-  start_khz = r.start_khz;
-  end_khz = r.end_khz;
-  max_bw_khz = r.max_bw_khz;
-  flags = flags_byte r.flags;
-  eirp_mbm = r.eirp_mbm;
-  cac_s = r.cac_s;
-  wmm = option_map (wmm_place ds s) r.wmm;
-}
+abbrev pub rule_at : List Domain → Sections → Rule → ℕ
+rule_at ds s = rule_place (wmm_at ds s) (first_rule ds s) s.rules
 
-unfoldable pub rule_place : List Domain → Sections → Rule → ℕ
-rule_place ds s r = place_in rule_key rule_words (first_rule ds s) s.rules (rule_record ds s r)
-
-unfoldable pub collection_record : List Domain → Sections → Domain → CollectionRecord
-collection_record ds s d = record { region = region_number d.region; rules = map (rule_place ds s) d.rules }
-
-unfoldable pub collection_place : List Domain → Sections → Domain → ℕ
-collection_place ds s d = place_in collection_key collection_words (first_collection ds s) s.collections (collection_record ds s d)
-
--- what is in use: a rule of some domain, and what rules and domains need
-abbrev pub HasRule : List Domain → Rule → Type 0
-HasRule ds r = (d : Domain) × Contains ds d × Contains d.rules r
-
-abbrev pub UsesWmm : List Domain → List ℕ → Type 0
-UsesWmm ds bytes = (r : Rule) × (w : Wmm) × HasRule ds r × (r.wmm ≡ Some w) × (bytes ≡ wmm_bytes w)
-
-abbrev pub UsesRule : List Domain → Sections → RuleRecord → Type 0
-UsesRule ds s x = (r : Rule) × HasRule ds r × (x ≡ rule_record ds s r)
-
-abbrev pub UsesCollection : List Domain → Sections → CollectionRecord → Type 0
-UsesCollection ds s c = (d : Domain) × Contains ds d × (c ≡ collection_record ds s d)
+abbrev pub collection_at : List Domain → Sections → Domain → ℕ
+collection_at ds s = collection_place (rule_at ds s) (first_collection ds s) s.collections
 
 -- Each section is the ascending list, without repeats, of the records in use.
 pub record AreSections (ds : List Domain) (s : Sections) : Type 0 where
   pub wmm_rules : IsSection (λ bytes. bytes) (UsesWmm ds) s.wmm_rules
-  pub rules : IsSection rule_key (UsesRule ds s) s.rules
-  pub collections : IsSection collection_key (UsesCollection ds s) s.collections
+  pub rules : IsSection rule_key (UsesRule (wmm_at ds s) ds) s.rules
+  pub collections : IsSection collection_key (UsesCollection (rule_at ds s) ds) s.collections
 
 -- a domain's entry: its code, and a pointer to its collection
-unfoldable pub entry : List Domain → Sections → Domain → List ℕ
-entry ds s d = d.alpha2.a ∷ d.alpha2.b ∷ be16 (collection_place ds s d)
+unfoldable pub entry : (Domain → ℕ) → Domain → List ℕ
+entry collection_at d = d.alpha2.a ∷ d.alpha2.b ∷ be16 (collection_at d)
 
 -- the whole file: header, entries, four zero bytes, WMM rules, rules, collections
 unfoldable pub file : List Domain → Sections → List ℕ
 file ds s =
-    be32 0x52474442 ++ (be32 20 ++ (flat_map (entry ds s) ds ++ (be32 0
+    be32 0x52474442 ++ (be32 20 ++ (flat_map (entry (collection_at ds s)) ds ++ (be32 0
     ++ (flat_map (λ bytes. bytes) s.wmm_rules ++ (flat_map rule_bytes s.rules ++ flat_map collection_bytes s.collections)))))
 
 -- The bytes are the file of the database.

@@ -1,4 +1,6 @@
 pub mod Order
 pub mod Records
+pub mod Keys
 pub mod LaidOut
 pub mod Places
+pub mod Gathered

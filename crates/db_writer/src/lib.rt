@@ -2,6 +2,8 @@
 #![tactic(auto)]
 
 mod records;
+mod gather;
+mod pieces;
 mod section;
 mod writer;
 

@@ -119,3 +119,6 @@ pub struct CollectionRecord {
     /// The places of the rules, in words of 4 bytes.
     pub rules: Places,
 }
+
+/// The record of a WMM rule: its bytes.
+pub type WmmRecord = [u8; 32];
