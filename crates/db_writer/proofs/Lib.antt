@@ -1,2 +1,6 @@
 pub mod Sorted
 pub mod Found
+pub mod Members
+pub mod Uses
+pub mod Few
+pub mod Reach

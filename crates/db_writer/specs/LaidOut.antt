@@ -9,8 +9,8 @@ use Rattle.db_writer.specs.Order.{IsSection, place_in}
 use Rattle.db_writer.specs.Records.{be16, be32, wmm_bytes, flags_byte, rule_key, rule_words, rule_bytes, collection_key, collection_words, collection_bytes}
 use Rattle.db_writer.specs.declared.records.CollectionRecord.{CollectionRecord}
 use Rattle.db_writer.specs.declared.records.RuleRecord.{RuleRecord}
-use Rattle.db_writer.specs.declared.writer.WriteFault.{WriteFault}
-use Rattle.db_writer.specs.declared.writer.WriteFault.TheVariants.{TooLarge, OutOfMemory}
+use Rattle.db_writer.specs.declared.fault.WriteFault.{WriteFault}
+use Rattle.db_writer.specs.declared.fault.WriteFault.TheVariants.{TooLarge, OutOfMemory}
 
 -- Where the WMM rule w stands, in a section of WMM rules that begins at `first`.
 unfoldable pub wmm_place : ℕ → List (List ℕ) → Wmm → ℕ

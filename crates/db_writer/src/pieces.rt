@@ -2,6 +2,7 @@
 
 ghost use Rattle.std.specs.Prelude.{◌≡◌, ℕ, ◌+◌, ◌*◌, ◌≤◌, ◌++◌, ◌∷◌, [], All, IfSome, List, OnOk, flat_map, length, refl};
 ghost use Rattle.db_writer.specs.Records.{be16, be32, rule_key, rule_length, rule_end, rule_words, rule_bytes, padding, collection_key, collection_words, collection_bytes};
+ghost use Rattle.db_writer.specs.Fits.{RuleFits, CollectionFits};
 ghost use Rattle.db_writer.specs.Keys.{rule_by_key, rule_told_by_key, collection_by_key, collection_told_by_key};
 
 use crate::records::{CollectionRecord, RuleRecord, WmmRecord};
@@ -115,7 +116,7 @@ impl Record for RuleRecord {
     ghost key = { rule_key };
     ghost words = { rule_words };
     ghost bytes = { rule_bytes };
-    ghost fits = { λ r. IfSome r.wmm (λ place. place ≤ 65535) };
+    ghost fits = { RuleFits };
 
     ghost by_key = { rule_by_key };
     ghost told_by_key = { rule_told_by_key };
@@ -142,7 +143,7 @@ impl Record for CollectionRecord {
     ghost key = { collection_key };
     ghost words = { collection_words };
     ghost bytes = { collection_bytes };
-    ghost fits = { λ c. (length c.rules ≤ 128) × All (λ place. place ≤ 65535) c.rules };
+    ghost fits = { CollectionFits };
 
     ghost by_key = { collection_by_key };
     ghost told_by_key = { collection_told_by_key };
