@@ -4,3 +4,8 @@ pub mod Members
 pub mod Uses
 pub mod Few
 pub mod Reach
+pub mod Places
+pub mod Lengths
+pub mod Wmm
+pub mod Rules
+pub mod Repeats
