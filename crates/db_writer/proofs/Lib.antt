@@ -9,3 +9,7 @@ pub mod Lengths
 pub mod Wmm
 pub mod Rules
 pub mod Repeats
+pub mod Collections
+pub mod Entries
+pub mod Law
+pub mod Unique

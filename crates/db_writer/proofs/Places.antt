@@ -88,3 +88,15 @@ Holds-piece bytes words b first p (x ∷ xs) (suc k) d h lengths within is =
     let rest = Holds-back b (4 * first) (4 * (first + words x)) (bytes x) (flat_map bytes xs) (omega (arith, len)) h in
     let sum = sum_by-cons words x (take k xs) in
     Holds-piece bytes words b (first + words x) p xs k d rest (All-tail (λ y. length (bytes y) ≡ 4 * words y) x xs lengths) (omega arith) (omega (arith, sum, is))
+
+-- joined pieces of so many words of 4 bytes each
+pub length-pieces : {X : Type 0} (bytes : X → List ℕ) (words : X → ℕ) (xs : List X) → All (λ x. length (bytes x) ≡ 4 * words x) xs → length (flat_map bytes xs) ≡ 4 * sum_by words xs
+length-pieces bytes words [] lengths = refl
+length-pieces bytes words (x ∷ xs) lengths =
+    let here = All-head (λ y. length (bytes y) ≡ 4 * words y) x xs lengths in
+    let more = length-pieces bytes words xs (All-tail (λ y. length (bytes y) ≡ 4 * words y) x xs lengths) in
+    omega (arith, length-append (bytes x) (flat_map bytes xs), here, more, sum_by-cons words x xs)
+
+pub sum_by-eights : {X : Type 0} (xs : List X) → sum_by (λ x. 8) xs ≡ 8 * length xs
+sum_by-eights [] = refl
+sum_by-eights (x ∷ xs) = omega (arith, sum_by-cons (λ y. 8) x xs, sum_by-eights xs)

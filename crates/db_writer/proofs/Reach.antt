@@ -48,7 +48,7 @@ place_up_to_last key words first xs x up (k, within, is) =
 rules_before : (ds : List Domain) (s : Sections) → first_rule ds s ≤ last_collection ds s
 rules_before ds s = omega arith
 
-wmm_in_reach : (ds : List Domain) (s : Sections) (r : Rule) (o : Option Wmm) → AreSections ds s → r.wmm ≡ o → HasRule ds r → last_collection ds s ≤ 65535 →
+pub wmm_in_reach : (ds : List Domain) (s : Sections) (r : Rule) (o : Option Wmm) → AreSections ds s → r.wmm ≡ o → HasRule ds r → last_collection ds s ≤ 65535 →
     IfSome (option_map (wmm_at ds s) o) (λ place. place ≤ 65535)
 unfolding wmm_place
 wmm_in_reach ds s r None sections e has small = tt
@@ -62,7 +62,7 @@ rule_fits : (ds : List Domain) (s : Sections) (x : RuleRecord) → AreSections d
 unfolding rule_record
 rule_fits ds s x sections (r, has, is) small = subst RuleFits (sym is) (wmm_in_reach ds s r r.wmm sections refl has small)
 
-rule_in_reach : (ds : List Domain) (s : Sections) (r : Rule) → AreSections ds s → HasRule ds r → last_collection ds s ≤ 65535 → rule_at ds s r ≤ 65535
+pub rule_in_reach : (ds : List Domain) (s : Sections) (r : Rule) → AreSections ds s → HasRule ds r → last_collection ds s ≤ 65535 → rule_at ds s r ≤ 65535
 unfolding rule_place
 rule_in_reach ds s r sections has small =
     let there = (sections.rules.exactly (rule_record (wmm_at ds s) r)).1 (r, has, refl) in
@@ -77,7 +77,7 @@ collection_fits ds s c all sections (d, among, is) small =
     let reach : All (λ r. rule_at ds s r ≤ 65535) d.rules = λ k r lt. rule_in_reach ds s _ sections (d, among, Contains-get_or d.rules k r lt) small in
     subst CollectionFits (sym is) (omega (arith, few, len), All-map (λ place. place ≤ 65535) (rule_at ds s) d.rules reach)
 
-collection_in_reach : (ds : List Domain) (s : Sections) (d : Domain) → AreSections ds s → Contains ds d → last_collection ds s ≤ 65535 → collection_at ds s d ≤ 65535
+pub collection_in_reach : (ds : List Domain) (s : Sections) (d : Domain) → AreSections ds s → Contains ds d → last_collection ds s ≤ 65535 → collection_at ds s d ≤ 65535
 unfolding collection_place
 collection_in_reach ds s d sections among small =
     let there = (sections.collections.exactly (collection_record (rule_at ds s) d)).1 (d, among, refl) in
