@@ -55,7 +55,7 @@ none_pass : {X : Type 0} (p : X → Bool) (xs : List X) → All (λ x. p x ≡ f
 none_pass p [] all = refl
 none_pass p (x ∷ xs) all = rw (All-head (λ y. p y ≡ false) x xs all) (none_pass p xs (All-tail (λ y. p y ≡ false) x xs all))
 
-ascends_rest : {X : Type 0} (key : X → List ℕ) (x : X) (xs : List X) → Ascends key (x ∷ xs) → Ascends key xs
+pub ascends_rest : {X : Type 0} (key : X → List ℕ) (x : X) (xs : List X) → Ascends key (x ∷ xs) → Ascends key xs
 ascends_rest key x xs up = λ i j d lt within. up (suc i) (suc j) d (omega arith) (omega arith)
 
 -- the records that precede one of a section are those that stand before it

@@ -13,3 +13,5 @@ pub mod Collections
 pub mod Entries
 pub mod Law
 pub mod Unique
+pub mod Exists
+pub mod Says

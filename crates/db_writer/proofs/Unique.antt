@@ -6,14 +6,11 @@ use Rattle.rule_tables.specs.declared.domain.Domain.{Domain}
 use Rattle.db_writer.specs.Order.{IsSection, precedes}
 use Rattle.db_writer.specs.Records.{rule_key, rule_words, collection_key}
 use Rattle.db_writer.specs.LaidOut.{Sections, AreSections, UsesWmm, UsesRule, UsesCollection, wmm_place, rule_place, first_wmm, LaidOut, EndsIn, IsWithin, file, last_collection}
-use Rattle.db_writer.proofs.Found.{Ascends, not_back, not_itself}
+use Rattle.db_writer.proofs.Found.{Ascends, ascends_rest, not_back, not_itself}
 
 -- the first of an ascending list precedes each of the others
-first_precedes : {X : Type 0} (key : X → List ℕ) (x : X) (xs : List X) (z : X) → Ascends key (x ∷ xs) → Contains xs z → IsTrue (precedes (key x) (key z))
+pub first_precedes : {X : Type 0} (key : X → List ℕ) (x : X) (xs : List X) (z : X) → Ascends key (x ∷ xs) → Contains xs z → IsTrue (precedes (key x) (key z))
 first_precedes key x xs z up (k, within, is) = subst (λ y. IsTrue (precedes (key x) (key y))) is (up zero (suc k) z (omega arith) (omega arith))
-
-ascends_rest : {X : Type 0} (key : X → List ℕ) (x : X) (xs : List X) → Ascends key (x ∷ xs) → Ascends key xs
-ascends_rest key x xs up = λ i j d lt within. up (suc i) (suc j) d (omega arith) (omega arith)
 
 -- two can't precede each other
 not_both : (xs ys : List ℕ) → IsTrue (precedes xs ys) → IsTrue (precedes ys xs) → ⊥

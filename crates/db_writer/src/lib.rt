@@ -3,6 +3,7 @@
 
 mod fault;
 mod gather;
+mod laws;
 mod pieces;
 mod plan;
 mod records;
@@ -10,4 +11,5 @@ mod section;
 mod writer;
 
 pub use fault::WriteFault;
+pub use laws::{file_says_its_database, one_file};
 pub use writer::layout;
