@@ -2,6 +2,7 @@
 
 ghost use Rattle.std.specs.Prelude.{◌≡◌, ◌≤◌, ◌++◌, All, IfErr, IfOk, OnOk, flat_map};
 ghost use Rattle.rule_tables.specs.Databases.{IsDb};
+ghost use Rattle.rule_tables.specs.FileFormat.{ReadsAs};
 ghost use Rattle.db_writer.specs.LaidOut.{entry, file, LaidOut, IsWithin, IsWriteFault};
 ghost use Rattle.db_writer.specs.Planned.{IsPlanOf, IsSmall, IsReady, CanBeWritten, planned_collection, planned_file};
 
@@ -29,6 +30,7 @@ const REACH: u64 = 65535;
 /// where the last collection would stand above place 65,535, in words of 4 bytes.
 pub fn layout(alloc: Global, db: &Db) -> Result<Bytes, WriteFault>
     ensures file { IfOk result (LaidOut db.now) }
+    ensures reads { IfOk result (λ bytes. ReadsAs bytes db.now) }
     ensures fits { OnOk result (IsWithin db.now) }
     ensures cause { IfErr result (IsWriteFault db.now) }
 {
