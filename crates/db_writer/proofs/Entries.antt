@@ -6,7 +6,6 @@ use Rattle.rule_tables.specs.Code.{key}
 use Rattle.rule_tables.specs.Databases.{IsDomain}
 use Rattle.rule_tables.specs.FileFormat.{u16_at, CollectionAt, EntryAt}
 use Rattle.rule_tables.specs.declared.domain.Domain.{Domain}
-use Rattle.db_writer.specs.Records.{be16}
 use Rattle.db_writer.specs.LaidOut.{entry}
 use Rattle.db_writer.proofs.Places.{Holds, Holds-front, Holds-back, Holds-cell, Holds-rest, Holds-be16}
 use Rattle.db_writer.proofs.Lengths.{length-entry}

@@ -1,5 +1,5 @@
 -- A database has a file.
-use Rattle.std.proofs.Common.{◌≡◌, ◌↔◌, ℕ, ◌+◌, ◌*◌, ◌⊎◌, Bool, true, false, cond, List, [], ◌∷◌, length, get_or, map, flat_map, All, Contains, IsTrue, Ordering, Less, Equal, Greater, is_lt, inl, inr, refl, sym, ap, ◌∙◌, subst, arith}
+use Rattle.std.proofs.Common.{◌≡◌, ◌↔◌, ℕ, ◌+◌, ◌*◌, ◌⊎◌, false, cond, List, [], ◌∷◌, length, map, flat_map, Contains, IsTrue, Ordering, Less, Equal, Greater, is_lt, inl, inr, refl, sym, ap, ◌∙◌, subst, arith}
 use Rattle.std.specs.Cmp.Lexicographic.{slice_cmp, nat_list_cmp_total}
 use Rattle.std.specs.Ordering.{nat_cmp, ordering_reverse}
 use Rattle.std.proofs.lemmas.Bool.{true≢false, cases_Bool}
@@ -9,7 +9,7 @@ use Rattle.freq_range.proofs.Members.{Contains-head, Contains-later, Contains-ca
 use Rattle.rule_tables.specs.declared.domain.Domain.{Domain}
 use Rattle.db_writer.specs.Order.{IsSection, precedes}
 use Rattle.db_writer.specs.Keys.{rule_told_by_key, collection_told_by_key}
-use Rattle.db_writer.specs.Records.{rule_key, rule_words, collection_key}
+use Rattle.db_writer.specs.Records.{rule_key, collection_key}
 use Rattle.db_writer.specs.LaidOut.{Sections, AreSections, wmm_place, rule_place, collection_record, first_wmm, LaidOut, EndsIn, file, last_collection}
 use Rattle.db_writer.specs.Gathered.{wmm_of_domain, records_of_domain}
 use Rattle.db_writer.proofs.Sorted.{equal_lists}
@@ -40,9 +40,9 @@ put_cases : {X : Type 0} (key : X → List ℕ) (told : (x y : X) → key x ≡ 
     (IsTrue (precedes (key x) (key y)) → P (x ∷ y ∷ ys)) → (IsTrue (precedes (key y) (key x)) → P (y ∷ put key x ys)) → (y ≡ x → P (y ∷ ys)) → P (put key x (y ∷ ys))
 unfolding put
 put_cases key told x y ys P before behind upon = elim (cases_Bool (precedes (key x) (key y))) [
-  inl first ↦ rw first (before first)
+  | inl first ↦ rw first (before first)
   | inr later ↦ elim (cases_Bool (precedes (key y) (key x))) [
-    inl first ↦ rw (later, first) (behind first)
+    | inl first ↦ rw (later, first) (behind first)
     | inr same ↦ rw (later, same) (upon (told y x (neither (key y) (key x) same later)))
   ]
 ]
@@ -60,7 +60,7 @@ put_has_old key told x [] z h = absurd (Contains-nothing z h)
 put_has_old key told x (y ∷ ys) z h = put_cases key told x y ys (λ zs. Contains zs z)
     (λ before. Contains-later x (y ∷ ys) z h)
     (λ behind. elim (Contains-cases y ys z h) [
-      inl is ↦ subst (Contains (y ∷ put key x ys)) is (Contains-head y (put key x ys))
+      | inl is ↦ subst (Contains (y ∷ put key x ys)) is (Contains-head y (put key x ys))
       | inr later ↦ Contains-later y (put key x ys) z (put_has_old key told x ys z later)
     ])
     (λ same. h)
@@ -71,7 +71,7 @@ put_only key told x [] z = λ h. Contains-cases x [] z h
 put_only key told x (y ∷ ys) z = put_cases key told x y ys (λ zs. Contains zs z → (x ≡ z) ⊎ Contains (y ∷ ys) z)
     (λ before h. Contains-cases x (y ∷ ys) z h)
     (λ behind h. elim (Contains-cases y (put key x ys) z h) [
-      inl is ↦ inr (subst (Contains (y ∷ ys)) is (Contains-head y ys))
+      | inl is ↦ inr (subst (Contains (y ∷ ys)) is (Contains-head y ys))
       | inr later ↦ elim (put_only key told x ys z later) [ inl is ↦ inl is | inr old ↦ inr (Contains-later y ys z old) ]
     ])
     (λ same h. inr h)
@@ -86,12 +86,12 @@ put_ascends key told x [] up = λ i j d lt within. absurd (omega arith)
 put_ascends key told x (y ∷ ys) up = put_cases key told x y ys (Ascends key)
     (λ before. ascends_cons key x (y ∷ ys)
     (λ z h. elim (Contains-cases y ys z h) [
-      inl is ↦ subst (λ w. IsTrue (precedes (key x) (key w))) is before
+      | inl is ↦ subst (λ w. IsTrue (precedes (key x) (key w))) is before
       | inr later ↦ through (key x) (key y) (key z) before (first_precedes key y ys z up later)
     ]) up)
     (λ behind. ascends_cons key y (put key x ys)
     (λ z h. elim (put_only key told x ys z h) [
-      inl is ↦ subst (λ w. IsTrue (precedes (key y) (key w))) is behind
+      | inl is ↦ subst (λ w. IsTrue (precedes (key y) (key w))) is behind
       | inr old ↦ first_precedes key y ys z up old
     ]) (put_ascends key told x ys (ascends_rest key y ys up)))
     (λ same. up)
@@ -110,7 +110,7 @@ in_order_only : {X : Type 0} (key : X → List ℕ) (told : (x y : X) → key x 
 unfolding in_order
 in_order_only key told [] z h = h
 in_order_only key told (x ∷ xs) z h = elim (put_only key told x (in_order key xs) z h) [
-  inl is ↦ subst (Contains (x ∷ xs)) is (Contains-head x xs)
+  | inl is ↦ subst (Contains (x ∷ xs)) is (Contains-head x xs)
   | inr old ↦ Contains-later x xs z (in_order_only key told xs z old)
 ]
 
@@ -118,7 +118,7 @@ in_order_all : {X : Type 0} (key : X → List ℕ) (told : (x y : X) → key x �
 unfolding in_order
 in_order_all key told [] z h = h
 in_order_all key told (x ∷ xs) z h = elim (Contains-cases x xs z h) [
-  inl is ↦ subst (Contains (put key x (in_order key xs))) is (put_has_new key told x (in_order key xs))
+  | inl is ↦ subst (Contains (put key x (in_order key xs))) is (put_has_new key told x (in_order key xs))
   | inr later ↦ put_has_old key told x (in_order key xs) z (in_order_all key told xs z later)
 ]
 

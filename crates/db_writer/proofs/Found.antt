@@ -1,5 +1,5 @@
 -- A record of a section is found, and its place is that of the section.
-use Rattle.std.proofs.Common.{◌≡◌, ◌≢◌, ℕ, zero, suc, ◌+◌, ◌<◌, ◌≤◌, Bool, true, false, cond, List, [], ◌∷◌, length, get_or, take, filter, All, AllPairs, Contains, IsTrue, sum_by, Ordering, Less, Equal, Greater, is_lt, is_gt, inl, inr, refl, sym, ap, ◌∙◌, subst, arith}
+use Rattle.std.proofs.Common.{◌≡◌, ℕ, zero, suc, ◌+◌, ◌<◌, Bool, true, false, List, [], ◌∷◌, length, get_or, take, filter, All, AllPairs, Contains, IsTrue, sum_by, Ordering, Less, Equal, Greater, is_lt, is_gt, inl, inr, refl, sym, ap, ◌∙◌, arith}
 use Rattle.std.specs.Cmp.{IsTotalOrder}
 use Rattle.std.specs.Cmp.Lexicographic.{slice_cmp, nat_list_cmp_total}
 use Rattle.std.specs.List.Sorted.{IsSortedBy, IsNonDecreasingBy, IsPartitionPoint}
@@ -46,7 +46,7 @@ not_missed R total key by_key xs x i up (k, within, is) position =
     let parts = position (searchable_from_sorted total (λ y. y) xs x (sorted_from R key by_key xs up)) in
     let tied : R (get_or xs k x) x ≡ Equal = ap (λ y. R y x) is ∙ tied_itself total x in
     elim (cases_lt k i) [
-      inl lt ↦ absurd (less_apart (sym (parts.0 k x (omega arith) lt) ∙ tied))
+      | inl lt ↦ absurd (less_apart (sym (parts.0 k x (omega arith) lt) ∙ tied))
       | inr le ↦ absurd (greater_apart (sym (parts.1 k x le within) ∙ tied))
     ]
 

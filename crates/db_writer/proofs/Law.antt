@@ -1,6 +1,5 @@
 -- The file of a database reads as the database.
-use Rattle.std.proofs.Common.{◌≡◌, ℕ, suc, ◌+◌, ◌-◌, ◌*◌, ◌<◌, ◌≤◌, List, [], ◌∷◌, length, get_or, flat_map, slice_index_or, All, Contains, IfSome, Option, Some, None, sum_by, refl, sym, ◌∙◌, subst, inl, inr, arith}
-use Rattle.std.proofs.lemmas.List.Concat.{length-flat_map}
+use Rattle.std.proofs.Common.{◌≡◌, ℕ, suc, ◌+◌, ◌*◌, ◌<◌, ◌≤◌, List, [], ◌∷◌, length, get_or, flat_map, slice_index_or, All, Contains, IfSome, Option, Some, None, refl, sym, ◌∙◌, subst, inl, inr, arith}
 use Rattle.std.proofs.lemmas.List.Elements.{All-contains, Contains-get_or}
 use Rattle.freq_range.specs.First.{IsFirst}
 use Rattle.freq_range.specs.Valid.{IsValidRule}
@@ -9,9 +8,9 @@ use Rattle.freq_range.specs.declared.wmm.Wmm.{Wmm}
 use Rattle.rule_tables.specs.Databases.{IsDb, IsDomain}
 use Rattle.rule_tables.specs.FileFormat.{u16_at, EndsAt, AreEntries, ReadsAs}
 use Rattle.rule_tables.specs.declared.domain.Domain.{Domain}
-use Rattle.db_writer.specs.Order.{IsSection, place_in}
+use Rattle.db_writer.specs.Order.{place_in}
 use Rattle.db_writer.specs.Records.{be32, wmm_bytes, rule_key, rule_words, rule_bytes, collection_key, collection_words, collection_bytes}
-use Rattle.db_writer.specs.LaidOut.{Sections, AreSections, UsesWmm, HasRule, wmm_place, rule_record, rule_place, collection_record, collection_place, first_wmm, first_rule, first_collection, wmm_at, rule_at, collection_at, last_collection, entry, file}
+use Rattle.db_writer.specs.LaidOut.{Sections, AreSections, HasRule, wmm_place, rule_record, rule_place, collection_record, collection_place, first_wmm, first_rule, first_collection, wmm_at, rule_at, collection_at, last_collection, entry, file}
 use Rattle.db_writer.proofs.Places.{Holds, Holds-whole, Holds-front, Holds-back, Holds-be32, Holds-piece, length-be32, length-pieces, sum_by-eights}
 use Rattle.db_writer.proofs.Lengths.{length-wmm_bytes, length-rule_bytes, length-collection_bytes}
 use Rattle.db_writer.proofs.Found.{Ascends}

@@ -1,5 +1,5 @@
 -- The elements of joined lists and of mapped lists.
-use Rattle.std.proofs.Common.{◌≡◌, ℕ, zero, suc, ◌≤◌, ◌*◌, List, [], ◌∷◌, ◌++◌, length, map, flat_map, All, Contains, sum_by, inl, inr, refl, sym, ap, ◌∙◌, subst, arith}
+use Rattle.std.proofs.Common.{◌≡◌, ℕ, zero, suc, ◌≤◌, ◌*◌, List, [], ◌∷◌, length, map, flat_map, All, Contains, inl, inr, refl, sym, ap, subst, arith}
 use Rattle.std.proofs.lemmas.List.Concat.{length-flat_map}
 use Rattle.std.proofs.lemmas.List.Elements.{Contains-append_left, Contains-append_right, Contains-append_cases}
 use Rattle.std.proofs.lemmas.List.Sums.{sum_by-le}
@@ -13,7 +13,7 @@ contains_more x xs y (k, within, is) = (suc k, omega arith, is)
 pub from_flat_map : {X A : Type 0} (f : X → List A) (xs : List X) (y : A) → Contains (flat_map f xs) y → (x : X) × Contains xs x × Contains (f x) y
 from_flat_map f [] y (k, within, is) = absurd (omega arith)
 from_flat_map f (x ∷ xs) y h = elim (Contains-append_cases (f x) (flat_map f xs) y h) [
-  inl here ↦ (x, contains_first x xs, here)
+  | inl here ↦ (x, contains_first x xs, here)
   | inr more ↦ (let (z, among, has) = from_flat_map f xs y more in (z, contains_more x xs z among, has))
 ]
 

@@ -1,5 +1,5 @@
 -- Of rules without repeats nothing is dropped.
-use Rattle.std.proofs.Common.{◌≡◌, ℕ, List, [], ◌∷◌, ◌++◌, length, Contains, reverse, sym, ◌∙◌, refl, subst, inr, arith}
+use Rattle.std.proofs.Common.{List, [], ◌∷◌, ◌++◌, length, Contains, reverse, sym, ◌∙◌, refl, subst, inr, arith}
 use Rattle.std.proofs.lemmas.List.{reverse-append, reverse-reverse, get_or_append_left, get_or_push, length-append, length_push}
 use Rattle.freq_range.proofs.Members.{Contains-reverse}
 use Rattle.freq_range.specs.declared.rule.Rule.{Rule}

@@ -1,9 +1,9 @@
 -- The one file of a database says the database.
-use Rattle.std.proofs.Common.{◌≡◌, ℕ, ◌≤◌, List, refl, sym, subst, arith}
+use Rattle.std.proofs.Common.{◌≡◌, ℕ, List, refl, sym, subst, arith}
 use Rattle.rule_tables.specs.Databases.{IsDb}
 use Rattle.rule_tables.specs.FileFormat.{ReadsAs}
 use Rattle.rule_tables.specs.declared.domain.Domain.{Domain}
-use Rattle.db_writer.specs.LaidOut.{LaidOut, EndsIn, IsWithin, last_collection}
+use Rattle.db_writer.specs.LaidOut.{LaidOut, IsWithin, last_collection}
 use Rattle.db_writer.proofs.Law.{reads_as}
 use Rattle.db_writer.proofs.Unique.{EndsIn-unique}
 

@@ -1,5 +1,5 @@
 -- What a sort and the drop of repeats leave is a section.
-use Rattle.std.proofs.Common.{◌≡◌, ℕ, Bool, true, false, List, All, Contains, Ordering, Less, Equal, Greater, is_lt, is_eq, refl, sym, ap, ◌∙◌, subst}
+use Rattle.std.proofs.Common.{◌≡◌, ℕ, Bool, true, List, All, Contains, Ordering, Less, Equal, Greater, is_lt, is_eq, refl, sym, ap, ◌∙◌, subst}
 use Rattle.std.specs.Cmp.{IsTotalOrder, IsEquivalence}
 use Rattle.std.specs.Cmp.Lexicographic.{slice_cmp, same_text, texts_ties}
 use Rattle.std.specs.List.{dedup}

@@ -1,11 +1,11 @@
 -- A database has at most one file.
-use Rattle.std.proofs.Common.{◌≡◌, ◌↔◌, ℕ, zero, suc, ◌+◌, ◌*◌, ◌<◌, ◌⊎◌, true, false, List, [], ◌∷◌, length, get_or, Contains, IsTrue, inl, inr, refl, sym, ap, ◌∙◌, subst, arith}
+use Rattle.std.proofs.Common.{◌≡◌, ℕ, zero, suc, ◌+◌, ◌*◌, List, [], ◌∷◌, length, Contains, IsTrue, inl, inr, refl, sym, ap, ◌∙◌, subst, arith}
 use Rattle.std.proofs.lemmas.Bool.{true≢false}
 use Rattle.freq_range.proofs.Members.{Contains-head, Contains-later, Contains-cases, Contains-nothing}
 use Rattle.rule_tables.specs.declared.domain.Domain.{Domain}
 use Rattle.db_writer.specs.Order.{IsSection, precedes}
-use Rattle.db_writer.specs.Records.{rule_key, rule_words, collection_key}
-use Rattle.db_writer.specs.LaidOut.{Sections, AreSections, UsesWmm, UsesRule, UsesCollection, wmm_place, rule_place, first_wmm, LaidOut, EndsIn, IsWithin, file, last_collection}
+use Rattle.db_writer.specs.Records.{rule_key, collection_key}
+use Rattle.db_writer.specs.LaidOut.{Sections, AreSections, UsesWmm, UsesRule, UsesCollection, wmm_place, rule_place, first_wmm, LaidOut, EndsIn, file, last_collection}
 use Rattle.db_writer.proofs.Found.{Ascends, ascends_rest, not_back, not_itself}
 
 -- the first of an ascending list precedes each of the others
@@ -20,9 +20,9 @@ not_both xs ys one other = true≢false (sym other ∙ not_back xs ys one)
 same_first : {X : Type 0} (key : X → List ℕ) (x : X) (xs : List X) (y : X) (ys : List X) → Ascends key (x ∷ xs) → Ascends key (y ∷ ys) →
     Contains (y ∷ ys) x → Contains (x ∷ xs) y → x ≡ y
 same_first key x xs y ys up up' there back = elim (Contains-cases y ys x there) [
-  inl is ↦ sym is
+  | inl is ↦ sym is
   | inr later ↦ elim (Contains-cases x xs y back) [
-    inl is ↦ is
+    | inl is ↦ is
     | inr later' ↦ absurd (not_both (key y) (key x) (first_precedes key y ys x up' later) (first_precedes key x xs y up later'))
   ]
 ]
@@ -31,7 +31,7 @@ same_first key x xs y ys up up' there back = elim (Contains-cases y ys x there) 
 behind_first : {X : Type 0} (key : X → List ℕ) (x : X) (xs : List X) (y : X) (ys : List X) → Ascends key (x ∷ xs) → x ≡ y →
     ((z : X) → Contains (x ∷ xs) z → Contains (y ∷ ys) z) → (z : X) → Contains xs z → Contains ys z
 behind_first key x xs y ys up same into z has = elim (Contains-cases y ys z (into z (Contains-later x xs z has))) [
-  inl is ↦ (let itself = subst (λ w. IsTrue (precedes (key w) (key z))) (same ∙ is) (first_precedes key x xs z up has) in absurd (true≢false (sym itself ∙ not_itself (key z))))
+  | inl is ↦ (let itself = subst (λ w. IsTrue (precedes (key w) (key z))) (same ∙ is) (first_precedes key x xs z up has) in absurd (true≢false (sym itself ∙ not_itself (key z))))
   | inr later ↦ later
 ]
 

@@ -1,5 +1,5 @@
 -- What the writer gathers is what is in use, and what is looked up in a section is there.
-use Rattle.std.proofs.Common.{◌≡◌, ◌↔◌, ◌==◌, ℕ, zero, suc, true, false, if◌then◌else◌, ◌+◌, ◌*◌, ◌/◌, ◌^◌, ◌≤◌, List, [], ◌∷◌, length, map, flat_map, get_or, All, Contains, IfSome, Option, Some, None, option_map, option_to_list, refl, sym, ap, ◌∙◌, subst, arith}
+use Rattle.std.proofs.Common.{◌≡◌, ◌↔◌, ◌==◌, ℕ, zero, suc, true, false, if◌then◌else◌, ◌*◌, ◌≤◌, List, length, map, flat_map, get_or, All, Contains, IfSome, Option, Some, None, option_map, option_to_list, refl, sym, subst, arith}
 use Rattle.std.proofs.lemmas.List.{length-map}
 use Rattle.std.proofs.lemmas.List.Elements.{All-contains, Contains-get_or}
 use Rattle.freq_range.specs.declared.rule.Rule.{Rule}
@@ -8,8 +8,8 @@ use Rattle.rule_tables.specs.Databases.{IsDomain}
 use Rattle.rule_tables.specs.declared.domain.Domain.{Domain}
 use Rattle.db_writer.specs.Order.{IsSection}
 use Rattle.db_writer.specs.Records.{wmm_bytes, rule_key, rule_words, rule_length, collection_words}
-use Rattle.db_writer.specs.LaidOut.{UsesWmm, UsesRule, UsesCollection, HasRule, wmm_place, rule_place, rule_record, collection_record}
-use Rattle.db_writer.specs.Gathered.{wmm_of, wmm_of_domain, records_of_domain, HasWmmAmong, IsFiled, AreFiled}
+use Rattle.db_writer.specs.LaidOut.{UsesWmm, UsesRule, UsesCollection, HasRule, wmm_place, rule_record, collection_record}
+use Rattle.db_writer.specs.Gathered.{wmm_of, wmm_of_domain, records_of_domain, HasWmmAmong, AreFiled}
 use Rattle.db_writer.specs.declared.records.CollectionRecord.{CollectionRecord}
 use Rattle.db_writer.specs.declared.records.RuleRecord.{RuleRecord}
 use Rattle.db_writer.proofs.Members.{from_flat_map, into_flat_map, from_map, into_map, flat_map-few}

@@ -1,10 +1,10 @@
 -- A WMM rule's record reads as the WMM rule.
-use Rattle.std.proofs.Common.{◌≡◌, ℕ, ◌+◌, ◌*◌, ◌/◌, ◌%◌, ◌<◌, ◌≤◌, List, [], ◌∷◌, ◌++◌, length, get_or, flat_map, refl, sym, ap, ◌∙◌, arith}
+use Rattle.std.proofs.Common.{◌≡◌, ℕ, ◌+◌, ◌*◌, List, refl, sym, arith}
 use Rattle.freq_range.specs.Valid.{IsValidEntry, IsValidWmm}
 use Rattle.freq_range.specs.declared.wmm.Wmm.{Wmm}
 use Rattle.freq_range.specs.declared.wmm.WmmEntry.{WmmEntry}
-use Rattle.rule_tables.specs.FileFormat.{u8_at, u16_at, WmmEntryAt, WmmAt}
-use Rattle.db_writer.specs.Records.{be16, wmm_entry_bytes, wmm_bytes}
+use Rattle.rule_tables.specs.FileFormat.{u8_at, WmmEntryAt, WmmAt}
+use Rattle.db_writer.specs.Records.{wmm_entry_bytes, wmm_bytes}
 use Rattle.db_writer.proofs.Places.{Holds, Holds-front, Holds-back, Holds-cell, Holds-rest, Holds-be16}
 use Rattle.db_writer.proofs.Lengths.{length-wmm_entry_bytes, length-wmm_bytes}
 

@@ -4,7 +4,7 @@ use Rattle.freq_range.specs.declared.rule.Rule.{Rule}
 use Rattle.freq_range.specs.declared.wmm.Wmm.{Wmm}
 use Rattle.rule_tables.specs.declared.domain.Domain.{Domain}
 use Rattle.db_writer.specs.Records.{wmm_bytes}
-use Rattle.db_writer.specs.LaidOut.{wmm_place, rule_record, collection_record}
+use Rattle.db_writer.specs.LaidOut.{wmm_place, rule_record}
 use Rattle.db_writer.specs.declared.records.RuleRecord.{RuleRecord}
 
 -- the WMM rules of a rule, of rules, and of the rules of domains, in their order

@@ -1,6 +1,6 @@
 -- The one byte list that is the file of a database. Each section is the ascending list, without repeats, of the records in
 -- use, so that equal records are written once; a pointer is the place of the record that it names.
-use Rattle.std.specs.Prelude.{◌≡◌, ℕ, ◌+◌, ◌-◌, ◌*◌, ◌<◌, ◌≤◌, List, ◌∷◌, ◌++◌, length, map, take, flat_map, sum_by, Contains, Option, Some, option_map}
+use Rattle.std.specs.Prelude.{◌≡◌, ℕ, ◌+◌, ◌-◌, ◌*◌, ◌<◌, ◌≤◌, List, ◌∷◌, ◌++◌, length, map, take, flat_map, sum_by, Contains, Some, option_map}
 use Rattle.freq_range.specs.declared.rule.Rule.{Rule}
 use Rattle.freq_range.specs.declared.wmm.Wmm.{Wmm}
 use Rattle.rule_tables.specs.FileFormat.{region_number}

@@ -82,24 +82,28 @@ fn put_pointers(out: &mut Bytes, places: &[u64]) -> Result<(), OutOfMemory>
 }
 
 /// Fills so many pointers up to a whole word.
-#[tactic(auto, unfolding(crate::specs::Records::padding))]
+#[tactic(auto, unfolding(crate::specs::Records::padding, crate::specs::Records::be16))]
 fn put_padding(out: &mut Bytes, count: usize) -> Result<(), OutOfMemory>
     ensures { OnOk result (out.new ≡ out.old ++ padding count) }
 {
     if count % 2 == 0 {
         return Ok(());
     }
-    put_u16(out, 0)?;
+    out.append(&[0, 0])?;
     Ok(())
 }
 
 impl Record for WmmRecord {
     ghost key = { λ bytes. bytes };
+
     ghost words = { λ bytes. 8 };
+
     ghost bytes = { λ bytes. bytes };
+
     ghost fits = { λ bytes. Unit {0} };
 
     ghost by_key = { λ _ _. refl };
+
     ghost told_by_key = { λ _ _ e. e };
 
     fn words(&self) -> u64 {
@@ -114,11 +118,15 @@ impl Record for WmmRecord {
 
 impl Record for RuleRecord {
     ghost key = { rule_key };
+
     ghost words = { rule_words };
+
     ghost bytes = { rule_bytes };
+
     ghost fits = { RuleFits };
 
     ghost by_key = { rule_by_key };
+
     ghost told_by_key = { rule_told_by_key };
 
     #[tactic(auto, unfolding(crate::specs::Records::rule_words))]
@@ -141,11 +149,15 @@ impl Record for RuleRecord {
 
 impl Record for CollectionRecord {
     ghost key = { collection_key };
+
     ghost words = { collection_words };
+
     ghost bytes = { collection_bytes };
+
     ghost fits = { CollectionFits };
 
     ghost by_key = { collection_by_key };
+
     ghost told_by_key = { collection_told_by_key };
 
     #[tactic(auto, unfolding(crate::specs::Records::collection_words))]

@@ -13,7 +13,9 @@ use std::alloc::Global;
 pub trait Record: Ord {
     /// The list of numbers by which records are ordered.
     ghost key: { Self → List ℕ };
+
     ghost words: { Self → ℕ };
+
     ghost bytes: { Self → List ℕ };
     /// Its numbers fit the fields that the file has for them.
     ghost fits: { Self → Type 0 };
@@ -28,6 +30,7 @@ pub trait Record: Ord {
         ensures { OnOk result (out.new ≡ out.old ++ bytes self.now) };
 
     ghost by_key: { (x y : Self) → Self.cmp x y ≡ slice_cmp nat_cmp (key x) (key y) };
+
     ghost told_by_key: { (x y : Self) → key x ≡ key y → x ≡ y };
 }
 
@@ -87,11 +90,7 @@ pub fn section_of<T: Record + Drop>(
 }
 
 /// The places of the records, of which the first stands at `first`.
-fn places_of<T: Record>(
-    alloc: Global,
-    records: &[T],
-    first: u64,
-) -> Result<Vec<u64>, OutOfMemory>
+fn places_of<T: Record>(alloc: Global, records: &[T], first: u64) -> Result<Vec<u64>, OutOfMemory>
     requires short { All (λ x. T.words x ≤ 65) records.now }
     requires few { length records.now ≤ 2 ^ 32 }
     requires low { first ≤ 2 ^ 40 }

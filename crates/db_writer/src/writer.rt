@@ -6,6 +6,9 @@ ghost use Rattle.rule_tables.specs.FileFormat.{ReadsAs};
 ghost use Rattle.db_writer.specs.LaidOut.{entry, file, LaidOut, IsWithin, IsWriteFault};
 ghost use Rattle.db_writer.specs.Planned.{IsPlanOf, IsSmall, IsReady, CanBeWritten, planned_collection, planned_file};
 
+#[cfg(test)]
+mod tests;
+
 use crate::fault::WriteFault;
 use crate::gather::collection_record;
 use crate::pieces::{put_pointer, put_u32};

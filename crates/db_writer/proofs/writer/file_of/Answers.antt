@@ -1,4 +1,4 @@
-use Rattle.std.proofs.Common.{◌≤◌, ◌++◌, ◌∙◌, ap, arith}
+use Rattle.std.proofs.Common.{◌++◌, ◌∙◌, ap, arith}
 use Rattle.db_writer.specs.Planned.{sections_in, planned_file}
 use Rattle.db_writer.proofs.Reach.{can_be_written, same_file}
 use Rattle.db_writer.proofs.writer.file_of.Goals as goal
