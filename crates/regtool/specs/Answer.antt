@@ -8,8 +8,8 @@ use Rattle.reg_base.specs.Causes.{Rose}
 use Rattle.rule_tables.specs.FileFormat.{ReadsAs}
 use Rattle.rule_tables.specs.declared.domain.Domain.{Domain}
 use Rattle.db_text.specs.TextOf.{TextOf, IsTextFault}
+use Rattle.db_writer.specs.LaidOut.{LaidOut, EndsIn, IsWithin}
 use Rattle.regtool.specs.Input.{AreAll, IsLonger}
-use Rattle.regtool.specs.Layout.{IsWithin, last_collection}
 use Rattle.regtool.specs.declared.status.InputFault.{InputFault}
 use Rattle.regtool.specs.declared.status.InputFault.TheVariants.{Text, Layout}
 use Rattle.regtool.specs.declared.status.Status.{Status}
@@ -48,14 +48,19 @@ HasFault d = Rose d.faults_before d.faults_after
 abbrev pub text_limit : ℕ
 text_limit = 16777216
 
--- the text stands for a database that has a file, and the bytes are such a file
+-- the bytes are the file of the database, and say it
+pub record IsFile (bytes : List ℕ) (ds : List Domain) : Type 0 where
+  pub laid_out : LaidOut ds bytes
+  pub reads : ReadsAs bytes ds
+
+-- the text stands for a database that has a file, and the bytes are that file
 abbrev pub IsFileOf : List ℕ → List ℕ → Type 0
-IsFileOf text bytes = (ds : List Domain) × TextOf text ds × IsWithin ds × ReadsAs bytes ds
+IsFileOf text bytes = (ds : List Domain) × TextOf text ds × IsWithin ds × IsFile bytes ds
 
 -- why the text has no file
 abbrev pub IsInputFault : List ℕ → InputFault → Type 0
 IsInputFault text (Text fault) = IsTextFault text fault
-IsInputFault text (Layout words) = (ds : List Domain) × TextOf text ds × (words ≡ last_collection ds) × (65535 < words)
+IsInputFault text (Layout words) = (ds : List Domain) × TextOf text ds × EndsIn ds words × (65535 < words)
 
 -- why the text gave no file
 abbrev pub IsRefusal : List ℕ → Refusal → Type 0
@@ -96,10 +101,10 @@ pub record MayCompile (call : Call) (text : List ℕ) (ds : List Domain) : Type 
   pub stands_for : TextOf text ds
   pub has_file : IsWithin ds
 
--- the input was read to its end, and a file of the database was written
+-- the input was read to its end, and the file of the database was written
 pub record WritesFile (call : Call) (ds : List Domain) : Type 0 where
   pub at_end : IsAtEnd call.input.after
-  pub file : (bytes : List ℕ) × ReadsAs bytes ds × Appends call.output.before call.output.after bytes
+  pub file : (bytes : List ℕ) × IsFile bytes ds × Appends call.output.before call.output.after bytes
 
 -- Where nothing keeps `compile` from its output, the status is `Done` and all of it is written, or memory was wanting.
 abbrev pub IsComplete : Call → Status → Type 0

@@ -1,5 +1,3 @@
-pub mod Layout
-pub mod Image
 pub mod Status
 pub mod Input
 pub mod Answer

@@ -7,9 +7,9 @@ ghost use Rattle.regtool.specs.Answer.{IsAnswer, IsCompile, IsCompiled, IsComple
 mod tests;
 
 use crate::input::{ReadStop, read_to_end};
-use crate::layout::{WriteFault, layout};
 use crate::status::{InputFault, Status};
 use db_text::{ParseFault, parse};
+use db_writer::{WriteFault, layout};
 use reg_base::{Bytes, Sink, Source};
 use std::alloc::Global;
 

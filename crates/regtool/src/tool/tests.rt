@@ -32,18 +32,16 @@ const US_FILE: [u8; 40] = [
 const TWO: &[u8] =
     b"country BB: DFS-JP\n(2400 - 2472 @ 40), (30)\ncountry AA: DFS-FCC\n(2400 - 2472 @ 40), (30)\n";
 
-/// Their file: the header, the entries of AA and BB with their collections at words 13 and 15, four
-/// zero bytes, the rules at words 5 and 9, and the collections.
-const TWO_FILE: [u8; 68] = [
+/// Their file: the header, the entries of AA and BB with their collections at words 9 and 11, four
+/// zero bytes, the one rule at word 5, and the collections, each with the rule at word 5.
+const TWO_FILE: [u8; 52] = [
     0x52, 0x47, 0x44, 0x42, 0x00, 0x00, 0x00, 0x14, //
-    0x41, 0x41, 0x00, 0x0d, 0x42, 0x42, 0x00, 0x0f, //
+    0x41, 0x41, 0x00, 0x09, 0x42, 0x42, 0x00, 0x0b, //
     0x00, 0x00, 0x00, 0x00, //
     0x10, 0x00, 0x0b, 0xb8, 0x00, 0x24, 0x9f, 0x00, //
     0x00, 0x25, 0xb8, 0x40, 0x00, 0x00, 0x9c, 0x40, //
-    0x10, 0x00, 0x0b, 0xb8, 0x00, 0x24, 0x9f, 0x00, //
-    0x00, 0x25, 0xb8, 0x40, 0x00, 0x00, 0x9c, 0x40, //
     0x03, 0x01, 0x01, 0x00, 0x00, 0x05, 0x00, 0x00, //
-    0x03, 0x01, 0x03, 0x00, 0x00, 0x09, 0x00, 0x00,
+    0x03, 0x01, 0x03, 0x00, 0x00, 0x05, 0x00, 0x00,
 ];
 
 /// The file of an empty text: the header and four zero bytes.
@@ -243,6 +241,42 @@ fn a_country_has_at_most_128_rules(rt: HostRuntime) -> Result<(), Fail> {
         let (status, _out) = compile_text(rt.alloc(), text.as_bytes())?;
         assert_eq!(rt; status, wanted, "for {count} rules");
     }
+    Ok(())
+}
+
+/// The code of country number `k`, of which there are 26 times 26.
+fn code(k: u8) -> [char; 2] {
+    [
+        char::from(b'A' + k / 26 % 26),
+        char::from(b'A' + k % 26),
+    ]
+}
+
+/// 128 countries with 128 rules each, all of them different.
+fn too_many_rules(alloc: Global) -> Result<String, Fail> {
+    let mut text = String::new(alloc);
+    let mut start = 0u32;
+    for k in 0..128u8 {
+        let [a, b] = code(k);
+        let header = format!(in alloc; "country {a}{b}:\n")?;
+        text.push_str(header.as_str())?;
+        for _ in 0..128 {
+            start = start.saturating_add(1);
+            let rule = format!(in alloc; "({start} - 20000 @ 20), (20)\n")?;
+            text.push_str(rule.as_str())?;
+        }
+    }
+    Ok(text)
+}
+
+// The collections begin behind 131 words and 16,384 rules of 4 words, and have 65 words each.
+#[test]
+fn a_file_has_at_most_65535_words_before_its_last_collection(rt: HostRuntime) -> Result<(), Fail> {
+    let text = too_many_rules(rt.alloc())?;
+    let (status, out) = compile_text(rt.alloc(), text.as_bytes())?;
+    let wanted = Status::Refused(InputFault::Layout { words: 73_922 });
+    assert_eq!(rt; status, wanted);
+    assert!(rt; out.written().is_empty());
     Ok(())
 }
 

@@ -1,0 +1,17 @@
+pub mod Sorted
+pub mod Found
+pub mod Members
+pub mod Uses
+pub mod Few
+pub mod Reach
+pub mod Places
+pub mod Lengths
+pub mod Wmm
+pub mod Rules
+pub mod Repeats
+pub mod Collections
+pub mod Entries
+pub mod Law
+pub mod Unique
+pub mod Exists
+pub mod Says
