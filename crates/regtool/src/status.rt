@@ -87,7 +87,23 @@ fn kind_name(kind: TextKind) -> &'static str
     ensures { result.now ≡ kind_name kind }
 {
     match kind {
-        TextKind::NotBuilt => "NotBuilt",
+        TextKind::LineTooLong => "LineTooLong",
+        TextKind::NotUtf8 => "NotUtf8",
+        TextKind::BadLine => "BadLine",
+        TextKind::NoBlock => "NoBlock",
+        TextKind::BadCountry => "BadCountry",
+        TextKind::BadRegion => "BadRegion",
+        TextKind::RegionDiffers => "RegionDiffers",
+        TextKind::BadBand => "BadBand",
+        TextKind::BadPower => "BadPower",
+        TextKind::BadFlag => "BadFlag",
+        TextKind::FlagNotInVersion => "FlagNotInVersion",
+        TextKind::NoWmm => "NoWmm",
+        TextKind::BadWmm => "BadWmm",
+        TextKind::WmmTwice => "WmmTwice",
+        TextKind::TooManyRules => "TooManyRules",
+        TextKind::WmmShort => "WmmShort",
+        TextKind::NoRules => "NoRules",
     }
 }
 

@@ -3,6 +3,9 @@
 
 ghost use Rattle.std.specs.Prelude.{◌<◌};
 
+mod rule_texts;
+mod text_faults;
+
 use super::regtool;
 use crate::status::{InputFault, Status, status_text};
 use db_text::{TextFault, TextKind};
@@ -85,11 +88,8 @@ fn compile_text(alloc: Global, text: &[u8]) -> Result<(Status, MemSink), Fail> {
 }
 
 /// The text is refused at that line.
-fn refused_at(line: u64) -> Status {
-    Status::Refused(InputFault::Text(TextFault {
-        line,
-        kind: TextKind::NotBuilt,
-    }))
+fn refused(line: u64, kind: TextKind) -> Status {
+    Status::Refused(InputFault::Text(TextFault { line, kind }))
 }
 
 #[test]
@@ -152,104 +152,9 @@ fn flags_stand_in_their_byte(rt: HostRuntime) -> Result<(), Fail> {
     Ok(())
 }
 
-/// Nothing is written for these texts, whose faulty lines are given.
-fn are_refused(rt: &impl Abort, alloc: Global, texts: &[(&[u8], u64)]) -> Result<(), Fail> {
-    for (text, line) in texts {
-        let (status, out) = compile_text(alloc, text)?;
-        assert_eq!(rt; status, refused_at(*line), "for {text:?}");
-        assert!(rt; out.written().is_empty(), "for {text:?}");
-    }
-    Ok(())
-}
-
-#[test]
-fn faulty_headers_name_their_line(rt: HostRuntime) -> Result<(), Fail> {
-    let texts: [(&[u8], u64); 9] = [
-        // headers that are spelled otherwise
-        (b"country us:\n", 1),
-        (b"country USA:\n", 1),
-        (b"country US\n", 1),
-        (b"country US: DFS-XX\n", 1),
-        // a header without rules, the first of them, and one before a line at fault
-        (b"country US:\n", 1),
-        (b"country US:\n\ncountry CA:\n(2400 - 2472 @ 40), (30)\n", 1),
-        (
-            b"country US:\n(2400 - 2472 @ 40), (30)\ncountry CA:\ncountry MX:\n",
-            3,
-        ),
-        (b"country US:\n\ncountry ca:\n", 3),
-        // a header that was there before
-        (
-            b"country US:\n(2400 - 2472 @ 40), (30)\n\ncountry US: DFS-JP\n(5170 - 5250 @ 80), (20)\n",
-            4,
-        ),
-    ];
-    are_refused(&rt, rt.alloc(), &texts)
-}
-
-#[test]
-fn faulty_rules_name_their_line(rt: HostRuntime) -> Result<(), Fail> {
-    let texts: [(&[u8], u64); 10] = [
-        // a rule before a header
-        (b"(2400 - 2472 @ 40), (30)\ncountry US:\n", 1),
-        // an unknown flag, and another fault that comes later; a comma without a flag
-        (b"country US:\n(2400 - 2472 @ 40), (30), LOUD\nx\n", 2),
-        (b"country US:\n(2400 - 2472 @ 40), (30),\n", 2),
-        // a power above the limit, an empty range, a width above the span, a fraction, a frequency above
-        // 4,294,967,295 kHz
-        (b"country US:\n(2400 - 2472 @ 40), (656)\n", 2),
-        (b"country US:\n(2472 - 2400 @ 40), (30)\n", 2),
-        (b"country US:\n(2400 - 2420 @ 40), (30)\n", 2),
-        (b"country US:\n(2400.5 - 2472 @ 40), (30)\n", 2),
-        (b"country US:\n(2400 - 4294968 @ 40), (30)\n", 2),
-        // a comment that isn't UTF-8
-        (b"\n# \xff\n", 2),
-        // a rule that was there before
-        (
-            b"country US:\n(2400 - 2472 @ 40), (30)\n(2400 - 2472 @ 40), (30)\n",
-            3,
-        ),
-    ];
-    are_refused(&rt, rt.alloc(), &texts)
-}
-
-#[test]
-fn a_line_has_at_most_4096_bytes(rt: HostRuntime) -> Result<(), Fail> {
-    for (count, wanted) in [(4096, Status::Done), (4097, refused_at(1))] {
-        let line = vec![in rt.alloc(); b'#'; count]?;
-        let (status, _out) = compile_text(rt.alloc(), line.as_slice())?;
-        assert_eq!(rt; status, wanted, "for {count} bytes");
-    }
-    Ok(())
-}
-
-/// A country with so many rules, in the lines from 2 on.
-fn many_rules(alloc: Global, count: u32) -> Result<String, Fail> {
-    let mut text = String::from_str(alloc, "country US:\n")?;
-    for k in 0..count {
-        let start = k + 1;
-        let rule = format!(in alloc; "({start} - 3000 @ 20), (20)\n")?;
-        text.push_str(rule.as_str())?;
-    }
-    Ok(text)
-}
-
-#[test]
-fn a_country_has_at_most_128_rules(rt: HostRuntime) -> Result<(), Fail> {
-    for (count, wanted) in [(128, Status::Done), (129, refused_at(130))] {
-        let text = many_rules(rt.alloc(), count)?;
-        let (status, _out) = compile_text(rt.alloc(), text.as_bytes())?;
-        assert_eq!(rt; status, wanted, "for {count} rules");
-    }
-    Ok(())
-}
-
 /// The code of country number `k`, of which there are 26 times 26.
 fn code(k: u8) -> [char; 2] {
-    [
-        char::from(b'A' + k / 26 % 26),
-        char::from(b'A' + k % 26),
-    ]
+    [char::from(b'A' + k / 26 % 26), char::from(b'A' + k % 26)]
 }
 
 /// 128 countries with 128 rules each, all of them different.
@@ -373,7 +278,7 @@ fn each_status_has_its_text(rt: HostRuntime) -> Result<(), Fail> {
     for (status, number, text) in [
         (Status::Done, 0, ""),
         (Status::Usage, 1, "usage\n"),
-        (refused_at(7), 2, "line 7: NotBuilt\n"),
+        (refused(7, TextKind::BadFlag), 2, "line 7: BadFlag\n"),
         (
             Status::Refused(InputFault::Layout { words: 65_536 }),
             2,
