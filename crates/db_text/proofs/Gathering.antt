@@ -107,9 +107,9 @@ gather-reads g h (part ∷ parts) e =
       says = says-more one.0 g two.0 h more.words two.1 more.says;
     }
 
-names-grow : (g m : Gathered) (name : List ℕ) (o : Option (List ℕ)) (names : List (List ℕ)) → o ≡ g.name → length (list_of o ++ (name ∷ names)) ≤ 1 → (more : Gathered) × (with_name name o g ≡ Some more) × (list_of more.name ++ names ≡ list_of o ++ (name ∷ names))
-names-grow g m name None names is few = (record { flags = g.flags; name = Some name; kept = g.kept }, refl, refl)
-names-grow g m name (Some other) names is few = absurd (omega arith)
+names-grow : (g : Gathered) (name : List ℕ) (o : Option (List ℕ)) (names : List (List ℕ)) → o ≡ g.name → length (list_of o ++ (name ∷ names)) ≤ 1 → (more : Gathered) × (with_name name o g ≡ Some more) × (list_of more.name ++ names ≡ list_of o ++ (name ∷ names))
+names-grow g name None names is few = (record { flags = g.flags; name = Some name; kept = g.kept }, refl, refl)
+names-grow g name (Some other) names is few = absurd (omega arith)
 
 gather-again : (g : Gathered) (words : List Word) → All IsWord words → length (list_of g.name ++ names_in words) ≤ 1 → (h : Gathered) × (gather g (map word_text words) ≡ Some h)
 unfolding gather gather_word
@@ -119,7 +119,7 @@ gather-again g (OfFlag flag ∷ words) each few =
     let rest = gather-again more words (All-tail IsWord (OfFlag flag) words each) few in
     (rest.0, rw (word_of-again (OfFlag flag) tt) rest.1)
 gather-again g (OfName name ∷ words) each few =
-    let more = names-grow g g name g.name (names_in words) refl few in
+    let more = names-grow g name g.name (names_in words) refl few in
     let rest = gather-again more.0 words (All-tail IsWord (OfName name) words each) (rw more.2 few) in
     (rest.0, rw (word_of-again (OfName name) (All-head IsWord (OfName name) words each), more.1) rest.1)
 

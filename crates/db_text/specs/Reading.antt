@@ -287,6 +287,13 @@ numbers_of bs = do
 unfoldable pub item_numbers : Item → List ℕ → Option ItemNumbers
 item_numbers item bs = after_word (item_name item) bs >>= numbers_of
 
+-- the numbers fit the fields of an entry
+pub record FitEntry (numbers : ItemNumbers) : Type 0 where
+  pub cw_min : numbers.cw_min ≤ 32767
+  pub cw_max : numbers.cw_max ≤ 32767
+  pub aifsn : numbers.aifsn ≤ 255
+  pub cot : numbers.cot ≤ 65535
+
 -- the numbers are the entry's
 pub record IsEntryOf (numbers : ItemNumbers) (e : WmmEntry) : Type 0 where
   pub least_window : numbers.cw_min + 1 ≡ 2 ^ e.min_exp

@@ -34,7 +34,7 @@ fn item_at(line: &[u8]) -> Option<Item>
     }
 }
 
-/// How the bytes of the line begin, by the steps of the program.
+/// The opening that is read first.
 #[tactic(auto, unfolding(crate::specs::Reading::opening_at))]
 fn opening_at(line: &[u8]) -> Option<Opening>
     ensures { MatchOption result (opening_at line.now ≡ None) (λ opening. opening_at line.now ≡ Some opening) }

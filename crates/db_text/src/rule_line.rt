@@ -12,6 +12,9 @@ use crate::scanner::begins_with;
 use freq_range::Rule;
 use std::alloc::Global;
 
+#[cfg(test)]
+mod tests;
+
 /// The rule that the squeezed line says, without `wmmrule=`, or what is wrong with it.
 fn bare_rule_of(line: &[u8]) -> Result<Rule, TextKind>
     ensures { MatchResult result (IsBareRule line.now) (IsBareKind line.now) }
@@ -29,7 +32,12 @@ fn bare_rule_of(line: &[u8]) -> Result<Rule, TextKind>
     Ok(spelled.rule)
 }
 
-/// The rule that a line of a rule text says, without `wmmrule=`, or what is wrong with the line.
+/// The rule that a line of a rule text (`db.txt` of wireless-regdb) says, without `wmmrule=`. A
+/// comment and blanks are dropped.
+///
+/// Otherwise the fault is want of memory, or the first of these kinds: `LineTooLong`, `NotUtf8`,
+/// `BadLine` where the line isn't a rule's, `BadBand`, `BadPower`, `BadFlag`, also for `wmmrule=`, and
+/// `FlagNotInVersion`.
 pub fn parse_rule(alloc: Global, text: &[u8]) -> Result<Rule, RuleTextFault>
     ensures rule { MatchResult result (λ rule. IsTextOfRule text.now rule) (IsParseRuleFault text.now) }
 {

@@ -2,7 +2,7 @@
 
 ghost use Rattle.std.specs.Prelude.{◌≡◌, ◌+◌, ◌^◌, ◌≤◌, ℕ, List, IfSome, MatchOption};
 ghost use Rattle.freq_range.specs.declared.wmm.WmmEntry.{WmmEntry};
-ghost use Rattle.db_text.specs.Reading.{IsEntryOf, field_at, item_numbers, numbers_of, titled_at, wmm_name_at};
+ghost use Rattle.db_text.specs.Reading.{FitEntry, IsEntryOf, field_at, item_numbers, numbers_of, titled_at, wmm_name_at};
 ghost use Rattle.db_text.specs.Spelling.{IsItemLine, IsWmmHeader, item_name};
 
 use crate::form::Item;
@@ -11,10 +11,16 @@ use crate::rule_words::is_name;
 use crate::scanner::{after_word, number_at, titled_at};
 use freq_range::WmmEntry;
 
-/// The greatest contention window.
+/// The greatest contention window, 2^15 - 1.
 const MOST_WINDOW: u32 = 32_767;
 
-/// The four numbers of an item.
+/// The greatest AIFSN.
+const MOST_AIFSN: u32 = 255;
+
+/// The greatest COT, in ms.
+const MOST_COT_MS: u32 = 65_535;
+
+/// The four numbers of an item, `cot` in ms.
 #[derive(Clone, Copy)]
 struct ItemNumbers {
     cw_min: u32,
@@ -23,7 +29,7 @@ struct ItemNumbers {
     cot: u32,
 }
 
-/// The name in the header, by the steps of the program.
+/// The name between `wmmrule` and the colon that ends the line.
 #[tactic(auto, unfolding(crate::specs::Reading::wmm_name_at))]
 fn wmm_name_at(line: &[u8]) -> Option<&[u8]>
     ensures { MatchOption result (wmm_name_at line.now ≡ None) (λ name. wmm_name_at line.now ≡ Some name.now) }
@@ -59,12 +65,12 @@ fn field_at<'a>(bytes: &'a [u8], word: &[u8], most: u32) -> Option<(u32, &'a [u8
 #[tactic(auto, unfolding(crate::specs::Reading::numbers_of))]
 fn numbers_of(bytes: &[u8]) -> Option<ItemNumbers>
     ensures found { MatchOption result (numbers_of bytes.now ≡ None) (λ numbers. numbers_of bytes.now ≡ Some numbers) }
-    ensures small { IfSome result (λ numbers. (numbers.cw_min ≤ 32767) × (numbers.cw_max ≤ 32767) × (numbers.aifsn ≤ 255) × (numbers.cot ≤ 65535)) }
+    ensures small { IfSome result FitEntry }
 {
     let (cw_min, rest) = field_at(bytes, b":cw_min=", MOST_WINDOW)?;
     let (cw_max, rest) = field_at(rest, b",cw_max=", MOST_WINDOW)?;
-    let (aifsn, rest) = field_at(rest, b",aifsn=", 255)?;
-    let (cot, rest) = field_at(rest, b",cot=", 65_535)?;
+    let (aifsn, rest) = field_at(rest, b",aifsn=", MOST_AIFSN)?;
+    let (cot, rest) = field_at(rest, b",cot=", MOST_COT_MS)?;
     if rest.is_empty() {
         Some(ItemNumbers {
             cw_min,
@@ -97,7 +103,7 @@ fn item_name(item: Item) -> &'static [u8]
 #[tactic(auto, unfolding(crate::specs::Reading::item_numbers))]
 fn item_numbers(line: &[u8], item: Item) -> Option<ItemNumbers>
     ensures found { MatchOption result (item_numbers item line.now ≡ None) (λ numbers. item_numbers item line.now ≡ Some numbers) }
-    ensures small { IfSome result (λ numbers. (numbers.cw_min ≤ 32767) × (numbers.cw_max ≤ 32767) × (numbers.aifsn ≤ 255) × (numbers.cot ≤ 65535)) }
+    ensures small { IfSome result FitEntry }
 {
     let rest = after_word(line, item_name(item))?;
     numbers_of(rest)
@@ -119,7 +125,7 @@ fn exponent_of(window: u32) -> Option<u8>
 
 /// The valid entry of the numbers, if there is one.
 fn entry_from(numbers: ItemNumbers) -> Option<WmmEntry>
-    requires { (numbers.cw_min ≤ 32767) × (numbers.cw_max ≤ 32767) × (numbers.aifsn ≤ 255) × (numbers.cot ≤ 65535) }
+    requires { FitEntry numbers }
     ensures { MatchOption result ((entry : WmmEntry) → IsEntryOf numbers entry → ⊥) (λ entry. IsEntryOf numbers entry) }
 {
     let entry = WmmEntry {
