@@ -67,7 +67,7 @@ named_at (form ∷ above) name some =
     let there = named_at above name some in
     (there.0, form_at_more (WmmHeader name) form above there.0 there.1)
 
-sound_header : (forms : List Form) (cs : List Alpha2) (region : Region) → AreSound forms → Contains forms (Country cs region) → AreCodes cs
+pub sound_header : (forms : List Form) (cs : List Alpha2) (region : Region) → AreSound forms → Contains forms (Country cs region) → AreCodes cs
 sound_header [] cs region sound has = absurd (Contains-nothing (Country cs region) has)
 sound_header (Country ds r ∷ above) cs region sound has = elim (Contains-cases (Country ds r) above (Country cs region) has) [
   | inl here ↦ subst AreCodes (same_header ds cs r region here).0 sound.1
@@ -90,7 +90,7 @@ sound_header (RuleLine rule name ∷ above) cs region sound has = elim (Contains
   | inr later ↦ sound_header above cs region sound later
 ]
 
-sound_code : (forms : List Form) (code : Alpha2) (region : Region) → AreSound forms → Names forms code region → IsCode code
+pub sound_code : (forms : List Form) (code : Alpha2) (region : Region) → AreSound forms → Names forms code region → IsCode code
 sound_code forms code region sound named = All-contains IsCode named.0 code (sound_header forms named.0 region sound named.1).each named.2
 
 -- ---- the domain of a code
@@ -117,7 +117,7 @@ whole_wmm lines forms (Some w) whole ended = elim (told_wmm w) [
       absurd (whole.none_short header.0 WmmShort (ended.0, header.1, w, ended.1.0, short))
 ]
 
-valid_rule : (lines : List (List ℕ)) (forms : List Form) (code : Alpha2) (r : Rule) → IsWhole lines forms → Contains (rules_of code forms) r → IsValidRule r
+pub valid_rule : (lines : List (List ℕ)) (forms : List Form) (code : Alpha2) (r : Rule) → IsWhole lines forms → Contains (rules_of code forms) r → IsValidRule r
 valid_rule lines forms code r whole has =
     let sound = rules_sound lines forms whole.accepted code r has in
     sound.valid (whole_wmm lines forms r.wmm whole sound.ended)

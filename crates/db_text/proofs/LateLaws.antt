@@ -22,7 +22,8 @@ use Rattle.db_text.specs.Forms.Form.{Country, Empty, ItemLine, RuleLine, WmmHead
 use Rattle.db_text.specs.Spelling.{AreCodes}
 use Rattle.db_text.specs.State.{AreAllBlocks, AreAllCountries, AreSound, IsBlockOf, IsFirstShortOf, IsHeaderAt, IsKeptCountry, IsLeastLine, IsWmmHeaderAt}
 use Rattle.db_text.specs.TextOf.{IsShortAt}
-use Rattle.db_text.proofs.FormLaws.{form_at_cases, form_at_contains}
+use Rattle.db_text.proofs.Built.{sound_header}
+use Rattle.db_text.proofs.FormLaws.{form_at_contains}
 
 -- the first place is at most any other
 first_below : (P : ℕ → Type 0) (k j : ℕ) → IsFirst P k → P j → k ≤ j
@@ -31,19 +32,8 @@ first_below P k j first holds = elim (cases_lt j k) [
   | inr above ↦ above
 ]
 
-pub header_codes : (forms : List Form) (k : ℕ) (cs : List Alpha2) (region : Region) → AreSound forms → form_at forms k ≡ Some (Country cs region) → AreCodes cs
-header_codes [] k cs region sound at = absurd cc
-header_codes (form ∷ above) k cs region sound at = elim (form_at_cases (Country cs region) form above k at) [
-  | inl top ↦ (subst (λ f. AreSound (f ∷ above)) top.1 sound).1
-  | inr later ↦ header_codes above k cs region (rest form sound) later
-]
-  where
-    rest : (form : Form) → AreSound (form ∷ above) → AreSound above
-    rest Empty is = is
-    rest (Country xs r) is = is.0
-    rest (WmmHeader name) is = is
-    rest (ItemLine item e) is = is
-    rest (RuleLine rule name) is = is
+header_codes : (forms : List Form) (k : ℕ) (cs : List Alpha2) (region : Region) → AreSound forms → form_at forms k ≡ Some (Country cs region) → AreCodes cs
+header_codes forms k cs region sound at = sound_header forms cs region sound (form_at_contains forms k (Country cs region) at)
 
 -- ---- WMM rules
 

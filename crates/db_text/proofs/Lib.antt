@@ -10,8 +10,8 @@ pub mod Cuts
 pub mod Deciding
 pub mod Decimals
 pub mod Digits
-pub mod EmptyLine
 pub mod EmptyLines
+pub mod EmptyTaken
 pub mod Ended
 pub mod EqualRules
 pub mod FormLaws
@@ -35,7 +35,6 @@ pub mod Ready
 pub mod RuleLaws
 pub mod RuleTaken
 pub mod RuleTexts
-pub mod SmallPowers
 pub mod Solid
 pub mod Stops
 pub mod Taken

@@ -11,6 +11,7 @@ use Rattle.db_text.specs.Forms.{Form}
 use Rattle.db_text.specs.Forms.Form.{Country, Empty, ItemLine, RuleLine, WmmHeader}
 use Rattle.db_text.specs.Lines.{lines_of}
 use Rattle.db_text.specs.State.{AreRead, AreSound, IsLineStop, Stands, TakesLine, fault_at}
+use Rattle.db_text.proofs.Unique.{length_accepted, sound_from_accepted}
 use Rattle.db_text.specs.TextOf.{IsFirstFault, IsParseFault, IsTextFault}
 
 -- the lines of what is left of a text
@@ -44,25 +45,8 @@ read_nothing text parser stands = record {
   bound = omega arith;
 }
 
-pub length_accepted : (lines : List (List ℕ)) (forms : List Form) → AreAccepted lines forms → length lines ≡ length forms
-length_accepted [] [] accepted = refl
-length_accepted [] (form ∷ above) accepted = absurd accepted
-length_accepted (line ∷ lines) [] accepted = absurd accepted
-length_accepted (line ∷ lines) (form ∷ above) accepted = ap suc (length_accepted lines above accepted.0)
-
--- the codes of accepted headers are codes
-pub accepted_sound : (lines : List (List ℕ)) (forms : List Form) → AreAccepted lines forms → AreSound forms
-accepted_sound [] [] accepted = tt
-accepted_sound [] (form ∷ above) accepted = absurd accepted
-accepted_sound (line ∷ lines) [] accepted = absurd accepted
-accepted_sound (line ∷ lines) (Empty ∷ above) accepted = accepted_sound lines above accepted.0
-accepted_sound (line ∷ lines) (Country cs region ∷ above) accepted = let good = accepted.1 in (accepted_sound lines above accepted.0, good.is.are)
-accepted_sound (line ∷ lines) (WmmHeader name ∷ above) accepted = accepted_sound lines above accepted.0
-accepted_sound (line ∷ lines) (ItemLine item e ∷ above) accepted = accepted_sound lines above accepted.0
-accepted_sound (line ∷ lines) (RuleLine rule name ∷ above) accepted = accepted_sound lines above accepted.0
-
 pub sound_so_far : (text : List ℕ) (left : Option (List ℕ)) (number : ℕ) (parser : Parser) (so_far : ReadSoFar text left number parser) → AreSound so_far.forms
-sound_so_far text left number parser so_far = accepted_sound (reverse so_far.seen) so_far.forms so_far.accepted
+sound_so_far text left number parser so_far = sound_from_accepted (reverse so_far.seen) so_far.forms so_far.accepted
 
 pub count_so_far : (text : List ℕ) (left : Option (List ℕ)) (number : ℕ) (parser : Parser) (so_far : ReadSoFar text left number parser) → number + 1 ≡ length so_far.forms + 1
 count_so_far text left number parser so_far =

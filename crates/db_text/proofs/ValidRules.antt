@@ -21,19 +21,10 @@ use Rattle.db_text.specs.Spelling.Power.{Dbm, Milliwatts}
 use Rattle.db_text.proofs.Contexts.{told_in_countries}
 use Rattle.db_text.proofs.FormLaws.{cases_among}
 use Rattle.db_text.proofs.LineForms.{IsSpelledRule-opens}
+use Rattle.db_text.proofs.Milliwatts.{powers}
 use Rattle.db_text.proofs.WmmLaws.{cases_name, same_name-apart}
 
 -- ---- powers
-
--- the powers of a number from 1 to below 10
-tenth_bounds : (m k : ℕ) → 10 ^ 12 ≤ m → m < 10 ^ 13 → (10 ^ 12 ≤ power m k) × (power m k < 10 ^ (13 + k))
-tenth_bounds m zero least most = (subst (λ p. 10 ^ 12 ≤ p) (sym (power-none m)) least, subst (λ p. p < 10 ^ 13) (sym (power-none m)) most)
-tenth_bounds m (suc k) least most =
-    let rest = tenth_bounds m k least most in
-    let next : power m (suc k) ≡ power m k * m / 10 ^ 12 = ap (power m) (sym (add-one k)) ∙ power-more m k in (
-      subst (λ p. 10 ^ 12 ≤ p) (sym next) (product_least (power m k) m rest.0 least),
-      subst (λ p. p < 10 ^ (13 + suc k)) (sym next) (subst (λ n. power m k * m / 10 ^ 12 < 10 ^ (13 + n)) (add-one k) (product_most (power m k) m k rest.1 most)),
-    )
 
 -- a decimal is below ten, and what is left is from 1 to below 10 again
 record IsSmall (digit next : ℕ) : Type 0 where
@@ -43,7 +34,7 @@ record IsSmall (digit next : ℕ) : Type 0 where
 
 small_decimal : (m digit next : ℕ) → 10 ^ 12 ≤ m → m < 10 ^ 13 → IsDecimal m digit next → IsSmall digit next
 small_decimal m digit next least most is =
-    let bounds = tenth_bounds m 9 least most in
+    let bounds = powers m 9 least most in
     let few = digits_most (power m 9) (12 + digit) bounds.1 is.least in
     record {
       few = omega (arith, few);

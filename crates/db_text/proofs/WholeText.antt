@@ -25,26 +25,9 @@ use Rattle.db_text.specs.Spelling.{AreCodes}
 use Rattle.db_text.specs.State.{AreAllBlocks, AreAllCountries, AreDomainsOf, AreRead, AreReady, AreSound, IsFirstShortOf, IsKeptCountry, domain_of}
 use Rattle.db_text.specs.TextOf.{IsDomainOf, IsShortAt, IsTextFault, TextOf}
 use Rattle.db_text.proofs.Ended.{all_blocks, all_countries}
-use Rattle.db_text.proofs.ReadSoFar.{accepted_sound}
+use Rattle.db_text.proofs.Built.{sound_code}
+use Rattle.db_text.proofs.Unique.{sound_from_accepted}
 use Rattle.db_text.proofs.Ready.{ready}
-
--- the codes of a header are codes
-sound_codes : (forms : List Form) (cs : List Alpha2) (region : Region) → AreSound forms → Contains forms (Country cs region) → AreCodes cs
-sound_codes [] cs region sound has = absurd (Contains-nothing (Country cs region) has)
-sound_codes (form ∷ above) cs region sound has = elim (Contains-cases form above (Country cs region) has) [
-  | inl here ↦ (subst (λ f. AreSound (f ∷ above)) here sound).1
-  | inr later ↦ sound_codes above cs region (rest form sound) later
-]
-  where
-    rest : (form : Form) → AreSound (form ∷ above) → AreSound above
-    rest Empty is = is
-    rest (Country xs r) is = is.0
-    rest (WmmHeader name) is = is
-    rest (ItemLine item e) is = is
-    rest (RuleLine rule name) is = is
-
-pub named_code : (forms : List Form) (code : Alpha2) (region : Region) → AreSound forms → Names forms code region → IsCode code
-named_code forms code region sound (cs, has, among) = All-contains IsCode cs code (sound_codes forms cs region sound has).each among
 
 -- the lists of what the parser holds
 pub record AreLists (parser : Parser) (cs : List Kept) (bs : List WmmBlock) : Type 0 where
@@ -59,7 +42,7 @@ AllOf forms cs bs = AreSound forms × AreAllBlocks forms bs × AreAllCountries f
 all_of : (text : List ℕ) (parser : Parser) (cs : List Kept) (bs : List WmmBlock) (read : AreRead text parser) → AreLists parser cs bs → AllOf read.forms cs bs
 all_of text parser cs bs read lists =
     let stands = read.stands in (
-      accepted_sound (reverse (lines_of text)) read.forms read.accepted,
+      sound_from_accepted (reverse (lines_of text)) read.forms read.accepted,
       all_blocks read.forms parser.blocks bs lists.blocks_are lists.blocks_ordered stands.blocks_are,
       all_countries read.forms parser.countries cs lists.countries_are lists.countries_ordered stands.countries_are,
     )
@@ -71,11 +54,12 @@ late_text text parser cs bs fault read lists first =
     let short = first read.forms all.0 all.1 all.2 in
     (short.0, short.1, inr (record { forms = read.forms; accepted = read.accepted; short = short.2; first = short.3 }))
 
-pub ready_text : (text : List ℕ) (parser : Parser) (cs : List Kept) (bs : List WmmBlock) → AreRead text parser → AreLists parser cs bs → All (λ b. IsValidWmm b.wmm) bs
+pub ready_text : (text : List ℕ) (parser : Parser) (cs : List Kept) (bs : List WmmBlock) → AreRead text parser → AreLists parser cs bs
+    → ((forms : List Form) → AreSound forms → AreAllBlocks forms bs → AreAllCountries forms cs → (k : ℕ) (kind : TextKind) → IsShortAt forms k kind → ⊥)
     → All (λ c. 0 < length c.rules) cs → AreReady cs
-ready_text text parser cs bs read lists valid some =
+ready_text text parser cs bs read lists none some =
     let all = all_of text parser cs bs read lists in
-    ready (reverse (lines_of text)) read.forms bs cs read.accepted all.1 all.2 valid some
+    ready (reverse (lines_of text)) read.forms cs (record { accepted = read.accepted; none_short = none read.forms all.0 all.1 all.2 }) all.2 some
 
 -- the domain of a country is the text's
 domain_is : (forms : List Form) (cs : List Kept) (c : Kept) → AreAllCountries forms cs → Contains cs c → IsDomainOf forms (domain_of c)
@@ -95,7 +79,7 @@ text_stands text parser cs bs ds read lists none are =
         each = All-weaker (λ d. (c : Kept) × Contains cs c × (domain_of c ≡ d)) (IsDomainOf read.forms)
             (λ d from. subst (IsDomainOf read.forms) from.2 (domain_is read.forms cs from.0 all.2 from.1)) ds are.each;
         all = λ code region named.
-            let c = all.2.all code region (named_code read.forms code region all.0 named) named in
+            let c = all.2.all code region (sound_code read.forms code region all.0 named) named in
             (domain_of c.0, are.all c.0 c.1, c.2);
         none_short = none read.forms all.0 all.1 all.2;
       },

@@ -56,7 +56,7 @@ fn first_empty(countries: &[Country]) -> Option<u64>
 pub fn late_fault(blocks: &[WmmBlock], countries: &[Country]) -> Option<TextFault>
     ensures first { (forms : List Form) → AreSound forms → AreAllBlocks forms blocks.now → AreAllCountries forms countries.now
         → MatchOption result ((k : ℕ) (kind : TextKind) → IsShortAt forms k kind → ⊥) (IsFirstShortOf forms) }
-    ensures none { MatchOption result (All (λ b. IsValidWmm b.wmm) blocks.now × All (λ c. 0 < length c.rules) countries.now) (λ fault. Unit {0}) }
+    ensures none { MatchOption result (All (λ c. 0 < length c.rules) countries.now) (λ fault. Unit {0}) }
 {
     match (first_short(blocks), first_empty(countries)) {
         (None, None) => None,

@@ -12,8 +12,6 @@ use crate::scanner::begins_with;
 use freq_range::Rule;
 use std::alloc::Global;
 
-#[cfg(test)]
-mod tests;
 
 /// The rule that the squeezed line says, without `wmmrule=`, or what is wrong with it.
 fn bare_rule_of(line: &[u8]) -> Result<Rule, TextKind>

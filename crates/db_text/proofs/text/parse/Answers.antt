@@ -21,8 +21,9 @@ assemble-requires c =
       blocks_are = c.in_ok-blocks.ensures.all;
       blocks_ordered = c.in_ok-blocks.ensures.ordered;
     } in
-    let whole = rw (c.as_slice.ensures.value, c.as_slice-2.ensures.value) at c.in_default.ensures.none in
-    ready_text c.args.text.now c.in_ok-countries.field-0 c.in_ok-countries-2.countries.items c.in_ok-blocks.blocks.items c.in_ok-countries.ensures lists whole.0 whole.1
+    let none = rw (c.as_slice.ensures.value, c.as_slice-2.ensures.value) at c.in_default.ensures.first in
+    ready_text c.args.text.now c.in_ok-countries.field-0 c.in_ok-countries-2.countries.items c.in_ok-blocks.blocks.items c.in_ok-countries.ensures lists none
+        (rw c.as_slice-2.ensures.value at c.in_default.ensures.none)
 
 pub returns : goal.returns
 returns c =

@@ -1,0 +1,39 @@
+-- An empty line is taken.
+use Rattle.std.proofs.Common.{◌≡◌, ◌≢◌, ℕ, ◌+◌, ◌<◌, List, [], ◌∷◌, ◌++◌, length, arith, refl, sym, subst, ◌∙◌, ap, inl, inr}
+use Rattle.std.proofs.lemmas.List.{length-append}
+use Rattle.db_text.specs.declared.fault.TextKind.{TextKind}
+use Rattle.db_text.specs.declared.fault.TextKind.TheVariants.{BadBand, BadCountry, BadFlag, BadLine, BadPower, BadRegion, BadWmm, FlagNotInVersion, NoBlock, NoWmm, RegionDiffers, TooManyRules, WmmTwice}
+use Rattle.db_text.specs.declared.form.Item.{Item}
+use Rattle.db_text.specs.declared.form.Item.TheVariants.{VoC, ViC, BeC, BkC, VoAp, ViAp, BeAp, BkAp}
+use Rattle.db_text.specs.declared.form.Opening.{Opening}
+use Rattle.db_text.specs.declared.form.Opening.TheVariants.{Country as OfCountry, Wmm as OfWmm, Rule as OfRule, Item as OfItem}
+use Rattle.db_text.specs.declared.parser.Open.{Open}
+use Rattle.db_text.specs.declared.parser.Open.TheVariants.{Nothing, Countries as OpenCountries, Wmm as OpenWmm}
+use Rattle.db_text.specs.declared.parser.Parser.{Parser}
+use Rattle.rule_tables.specs.declared.code.Alpha2.{Alpha2}
+use Rattle.db_text.specs.Faults.{IsWrong}
+use Rattle.db_text.specs.Forms.{Form}
+use Rattle.db_text.specs.Forms.Form.{Empty}
+use Rattle.db_text.specs.Spelling.{Opens, opening_text, region_name}
+use Rattle.db_text.specs.State.{IsOpen, Stands, TakesBare}
+use Rattle.db_text.proofs.CountryLaws.{quiet_countries}
+use Rattle.db_text.proofs.LineForms.{HasCodes-opens, IsSpelledRule-opens, IsWmmHeader-opens}
+use Rattle.db_text.proofs.EmptyLines.{empty_good}
+use Rattle.db_text.proofs.WmmLaws.{quiet_blocks}
+
+pub taken_empty : (above : List Form) (line : List ℕ) (parser : Parser) → line ≡ [] → Stands above parser → TakesBare above line parser
+taken_empty above line parser none stands = record {
+  form = Empty;
+  is = none;
+  good = subst (λ l. (kind : TextKind) → IsWrong above l kind → ⊥) (sym none) (empty_good above);
+  stands = record {
+    countries_are = quiet_countries Empty above parser.countries (λ code. tt) stands.countries_are;
+    blocks_are = quiet_blocks Empty above parser.blocks tt stands.blocks_are;
+    open_is = same_open parser.open parser.codes.items parser.name.items stands.open_is;
+  };
+}
+  where
+    same_open : (o : Open) (codes : List Alpha2) (name : List ℕ) → IsOpen above o codes name → IsOpen (Empty ∷ above) o codes name
+    same_open Nothing codes name is = is
+    same_open OpenCountries codes name is = is
+    same_open OpenWmm codes name is = is
