@@ -8,7 +8,7 @@ use Rattle.rule_tables.specs.FileFormat.{target_at, pointers_of, RuleAt, RulesAt
 use Rattle.rule_tables.specs.declared.domain.Domain.{Domain}
 use Rattle.db_writer.specs.Records.{be16, padding, collection_bytes}
 use Rattle.db_writer.specs.LaidOut.{collection_record}
-use Rattle.db_writer.proofs.Places.{Holds, Holds-front, Holds-back, Holds-cell, Holds-rest, Holds-be16, length-be16}
+use Rattle.db_writer.proofs.Holds.{Holds, Holds-front, Holds-back, Holds-cell, Holds-rest, Holds-be16, length-be16}
 use Rattle.db_writer.proofs.Lengths.{length-pointers}
 use Rattle.db_writer.proofs.Repeats.{keeps_all}
 

@@ -7,7 +7,7 @@ use Rattle.rule_tables.specs.Databases.{IsDomain}
 use Rattle.rule_tables.specs.FileFormat.{u16_at, CollectionAt, EntryAt}
 use Rattle.rule_tables.specs.declared.domain.Domain.{Domain}
 use Rattle.db_writer.specs.LaidOut.{entry}
-use Rattle.db_writer.proofs.Places.{Holds, Holds-front, Holds-back, Holds-cell, Holds-rest, Holds-be16}
+use Rattle.db_writer.proofs.Holds.{Holds, Holds-front, Holds-back, Holds-cell, Holds-rest, Holds-be16}
 use Rattle.db_writer.proofs.Lengths.{length-entry}
 
 -- a pointer can name the place of the domain's collection, which isn't 0, and the collection is read there

@@ -11,7 +11,7 @@ use Rattle.rule_tables.specs.declared.domain.Domain.{Domain}
 use Rattle.db_writer.specs.Order.{place_in}
 use Rattle.db_writer.specs.Records.{be32, wmm_bytes, rule_key, rule_words, rule_bytes, collection_key, collection_words, collection_bytes}
 use Rattle.db_writer.specs.LaidOut.{Sections, AreSections, HasRule, wmm_place, rule_record, rule_place, collection_record, collection_place, first_wmm, first_rule, first_collection, wmm_at, rule_at, collection_at, last_collection, entry, file}
-use Rattle.db_writer.proofs.Places.{Holds, Holds-whole, Holds-front, Holds-back, Holds-be32, Holds-piece, length-be32, length-pieces, sum_by-eights}
+use Rattle.db_writer.proofs.Holds.{Holds, Holds-whole, Holds-front, Holds-back, Holds-be32, Holds-piece, length-be32, length-pieces, sum_by-eights}
 use Rattle.db_writer.proofs.Lengths.{length-wmm_bytes, length-rule_bytes, length-collection_bytes}
 use Rattle.db_writer.proofs.Found.{Ascends}
 use Rattle.db_writer.proofs.Reach.{place_at, wmm_in_reach, rule_in_reach, collection_in_reach}

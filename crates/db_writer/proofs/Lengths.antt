@@ -9,7 +9,7 @@ use Rattle.db_writer.specs.Records.{be16, wmm_entry_bytes, wmm_bytes, rule_lengt
 use Rattle.db_writer.specs.LaidOut.{entry}
 use Rattle.db_writer.specs.declared.records.CollectionRecord.{CollectionRecord}
 use Rattle.db_writer.specs.declared.records.RuleRecord.{RuleRecord}
-use Rattle.db_writer.proofs.Places.{length-be16, length-be32}
+use Rattle.db_writer.proofs.Holds.{length-be16, length-be32}
 
 pub length-wmm_entry_bytes : (e : WmmEntry) → length (wmm_entry_bytes e) ≡ 4
 unfolding wmm_entry_bytes

@@ -4,7 +4,7 @@ pub mod Members
 pub mod Uses
 pub mod Few
 pub mod Reach
-pub mod Places
+pub mod Holds
 pub mod Lengths
 pub mod Wmm
 pub mod Rules

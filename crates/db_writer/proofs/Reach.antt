@@ -11,8 +11,8 @@ use Rattle.db_writer.specs.Order.{IsSection, place_in}
 use Rattle.db_writer.specs.Records.{be32, wmm_bytes, rule_key, rule_words, rule_bytes, collection_key, collection_words, collection_bytes}
 use Rattle.db_writer.specs.LaidOut.{Sections, AreSections, UsesRule, UsesCollection, HasRule, wmm_place, rule_record, rule_place, collection_record, collection_place, first_wmm, first_rule, first_collection, wmm_at, rule_at, collection_at, last_collection, entry, file}
 use Rattle.db_writer.specs.Fits.{RuleFits, CollectionFits}
-use Rattle.db_writer.specs.Gathered.{AreFiled}
-use Rattle.db_writer.specs.Planned.{sections_in, IsPlanOf, IsReady, CanBeWritten, planned_wmm, planned_rule, planned_collection, planned_file}
+use Rattle.db_writer.specs.Filed.{wmm_at_in, rule_at_in, AreFiled}
+use Rattle.db_writer.specs.Planned.{sections_in, IsPlanOf, IsReady, CanBeWritten, planned_collection, planned_file}
 use Rattle.db_writer.specs.declared.plan.Plan.{Plan}
 use Rattle.db_writer.specs.declared.records.CollectionRecord.{CollectionRecord}
 use Rattle.db_writer.specs.declared.records.RuleRecord.{RuleRecord}
@@ -85,11 +85,11 @@ collection_in_reach ds s d sections among small =
     omega (arith, upto, small)
 
 -- the places of the plan are those of the file
-same_wmm : (ds : List Domain) (p : Plan) → IsPlanOf ds p → planned_wmm p ≡ wmm_at ds (sections_in p)
-same_wmm ds p plan = λ i. wmm_place (plan.wmm_first i) p.wmm_rules.records.items
+same_wmm : (ds : List Domain) (p : Plan) → IsPlanOf ds p → wmm_at_in p.rules ≡ wmm_at ds (sections_in p)
+same_wmm ds p plan = λ i. wmm_place (plan.wmm_first i) p.rules.wmm_rules.records.items
 
-same_rule : (ds : List Domain) (p : Plan) → IsPlanOf ds p → planned_rule p ≡ rule_at ds (sections_in p)
-same_rule ds p plan = λ i. rule_place (same_wmm ds p plan i) (plan.rule_first i) p.rules.records.items
+same_rule : (ds : List Domain) (p : Plan) → IsPlanOf ds p → rule_at_in p.rules ≡ rule_at ds (sections_in p)
+same_rule ds p plan = λ i. rule_place (same_wmm ds p plan i) (plan.rule_first i) p.rules.rules.records.items
 
 same_collection : (ds : List Domain) (p : Plan) → IsPlanOf ds p → planned_collection p ≡ collection_at ds (sections_in p)
 same_collection ds p plan = λ i. collection_place (same_rule ds p plan i) (plan.collection_first i) p.collections.records.items
@@ -98,7 +98,7 @@ pub same_file : (ds : List Domain) (p : Plan) → IsPlanOf ds p → planned_file
 unfolding planned_file file
 same_file ds p plan =
     ap (λ place. be32 0x52474442 ++ (be32 20 ++ (flat_map (entry place) ds ++ (be32 0
-    ++ (flat_map (λ bytes. bytes) p.wmm_rules.records.items ++ (flat_map rule_bytes p.rules.records.items ++ flat_map collection_bytes p.collections.records.items))))))
+    ++ (flat_map (λ bytes. bytes) p.rules.wmm_rules.records.items ++ (flat_map rule_bytes p.rules.rules.records.items ++ flat_map collection_bytes p.collections.records.items))))))
     (same_collection ds p plan)
 
 is_ready : (ds : List Domain) (p : Plan) (d : Domain) → All IsDomain ds → IsPlanOf ds p → last_collection ds (sections_in p) ≤ 65535 → Contains ds d → IsReady p d
@@ -107,7 +107,7 @@ is_ready ds p d all plan small among =
     let rules = subst (λ f. IsSection rule_key (UsesRule f ds) s.rules) (sym (same_wmm ds p plan)) plan.sections.rules in
     record {
       domain = All-contains IsDomain ds d all among;
-      filed = All-contains (AreFiled p.wmm_rules.first s.wmm_rules s.rules) ds d (all_filed ds p.wmm_rules.first s.wmm_rules s.rules plan.sections.wmm_rules rules) among;
+      filed = All-contains (AreFiled p.rules) ds d (all_filed ds p.rules plan.sections.wmm_rules rules) among;
       there = subst (λ f. Contains s.collections (collection_record f d)) (sym (same_rule ds p plan)) ((plan.sections.collections.exactly _).1 (d, among, refl));
       in_reach = subst (λ f. f d ≤ 65535) (sym (same_collection ds p plan)) (collection_in_reach ds s d plan.sections among small);
     }

@@ -8,7 +8,7 @@ use Rattle.freq_range.specs.declared.wmm.Wmm.{Wmm}
 use Rattle.rule_tables.specs.FileFormat.{u8_at, u16_at, target_at, has_bit, flags_in, WmmAt, NamesWmm, RuleAt}
 use Rattle.db_writer.specs.Records.{be16, be32, wmm_bytes, bit, flags_byte, rule_length, rule_end, rule_bytes}
 use Rattle.db_writer.specs.LaidOut.{rule_record}
-use Rattle.db_writer.proofs.Places.{Holds, Holds-front, Holds-back, Holds-cell, Holds-rest, Holds-be16, Holds-be32, length-be16, length-be32}
+use Rattle.db_writer.proofs.Holds.{Holds, Holds-front, Holds-back, Holds-cell, Holds-rest, Holds-be16, Holds-be32, length-be16, length-be32}
 use Rattle.db_writer.proofs.Lengths.{length-rule_bytes, rule_length-le, rule_length-low, rule_length-without}
 use Rattle.db_writer.proofs.Wmm.{wmm_reads}
 

@@ -8,8 +8,10 @@ use Rattle.rule_tables.specs.Databases.{IsDomain}
 use Rattle.rule_tables.specs.declared.domain.Domain.{Domain}
 use Rattle.db_writer.specs.Order.{IsSection}
 use Rattle.db_writer.specs.Records.{wmm_bytes, rule_key, rule_words, rule_length, collection_words}
-use Rattle.db_writer.specs.LaidOut.{UsesWmm, UsesRule, UsesCollection, HasRule, wmm_place, rule_record, collection_record}
-use Rattle.db_writer.specs.Gathered.{wmm_of, wmm_of_domain, records_of_domain, HasWmmAmong, AreFiled}
+use Rattle.db_writer.specs.LaidOut.{UsesWmm, UsesRule, UsesCollection, HasRule, rule_record, collection_record}
+use Rattle.db_writer.specs.Gathered.{wmm_of, wmm_of_domain, records_of_domain, HasWmmAmong}
+use Rattle.db_writer.specs.Filed.{wmm_at_in, AreFiled}
+use Rattle.db_writer.specs.declared.gather.RuleSections.{RuleSections}
 use Rattle.db_writer.specs.declared.records.CollectionRecord.{CollectionRecord}
 use Rattle.db_writer.specs.declared.records.RuleRecord.{RuleRecord}
 use Rattle.db_writer.proofs.Members.{from_flat_map, into_flat_map, from_map, into_map, flat_map-few}
@@ -69,11 +71,11 @@ all_have_wmm ds wmm_rules section = λ k d within j r lt.
     has_wmm _ _ ds wmm_rules refl (get_or ds k d, Contains-get_or ds k d within, Contains-get_or (get_or ds k d).rules j r lt) section
 
 -- the record of each rule is in its section
-pub all_filed : (ds : List Domain) (first : ℕ) (wmm_rules : List (List ℕ)) (rules : List RuleRecord) → IsSection (λ bytes. bytes) (UsesWmm ds) wmm_rules →
-    IsSection rule_key (UsesRule (wmm_place first wmm_rules) ds) rules → All (AreFiled first wmm_rules rules) ds
-all_filed ds first wmm_rules rules wmm_section rule_section = λ k d within. record {
+pub all_filed : (ds : List Domain) (s : RuleSections) → IsSection (λ bytes. bytes) (UsesWmm ds) s.wmm_rules.records.items →
+    IsSection rule_key (UsesRule (wmm_at_in s) ds) s.rules.records.items → All (AreFiled s) ds
+all_filed ds s wmm_section rule_section = λ k d within. record {
   each = λ j r lt. record {
-    wmm = all_have_wmm ds wmm_rules wmm_section k d within j r lt;
+    wmm = all_have_wmm ds s.wmm_rules.records.items wmm_section k d within j r lt;
     rule = (rule_section.exactly _).1 (get_or (get_or ds k d).rules j r, (get_or ds k d, Contains-get_or ds k d within, Contains-get_or (get_or ds k d).rules j r lt), refl);
   };
 }

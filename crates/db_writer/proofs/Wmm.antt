@@ -5,7 +5,7 @@ use Rattle.freq_range.specs.declared.wmm.Wmm.{Wmm}
 use Rattle.freq_range.specs.declared.wmm.WmmEntry.{WmmEntry}
 use Rattle.rule_tables.specs.FileFormat.{u8_at, WmmEntryAt, WmmAt}
 use Rattle.db_writer.specs.Records.{wmm_entry_bytes, wmm_bytes}
-use Rattle.db_writer.proofs.Places.{Holds, Holds-front, Holds-back, Holds-cell, Holds-rest, Holds-be16}
+use Rattle.db_writer.proofs.Holds.{Holds, Holds-front, Holds-back, Holds-cell, Holds-rest, Holds-be16}
 use Rattle.db_writer.proofs.Lengths.{length-wmm_entry_bytes, length-wmm_bytes}
 
 entry_reads : (b : List ℕ) (i : ℕ) (e : WmmEntry) → IsValidEntry e → Holds b i (wmm_entry_bytes e) → WmmEntryAt b i e

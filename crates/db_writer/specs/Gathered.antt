@@ -1,10 +1,10 @@
 -- The records that the writer gathers before it puts them in order.
-use Rattle.std.specs.Prelude.{ℕ, List, map, flat_map, Contains, All, IfSome, option_map, option_to_list}
+use Rattle.std.specs.Prelude.{ℕ, List, map, flat_map, Contains, IfSome, option_map, option_to_list}
 use Rattle.freq_range.specs.declared.rule.Rule.{Rule}
 use Rattle.freq_range.specs.declared.wmm.Wmm.{Wmm}
 use Rattle.rule_tables.specs.declared.domain.Domain.{Domain}
 use Rattle.db_writer.specs.Records.{wmm_bytes}
-use Rattle.db_writer.specs.LaidOut.{wmm_place, rule_record}
+use Rattle.db_writer.specs.LaidOut.{rule_record}
 use Rattle.db_writer.specs.declared.records.RuleRecord.{RuleRecord}
 
 -- the WMM rules of a rule, of rules, and of the rules of domains, in their order
@@ -21,11 +21,3 @@ records_of_domain wmm_at d = map (rule_record wmm_at) d.rules
 -- the WMM rule of a rule, if it has one, is among these
 abbrev pub HasWmmAmong : List (List ℕ) → Rule → Type 0
 HasWmmAmong wmm_rules r = IfSome r.wmm (λ w. Contains wmm_rules (wmm_bytes w))
-
--- the rule's record is among these, and its WMM rule among those
-pub record IsFiled (first : ℕ) (wmm_rules : List (List ℕ)) (rules : List RuleRecord) (r : Rule) : Type 0 where
-  pub wmm : HasWmmAmong wmm_rules r
-  pub rule : Contains rules (rule_record (wmm_place first wmm_rules) r)
-
-pub record AreFiled (first : ℕ) (wmm_rules : List (List ℕ)) (rules : List RuleRecord) (d : Domain) : Type 0 where
-  pub each : All (IsFiled first wmm_rules rules) d.rules

@@ -5,4 +5,5 @@ pub mod Keys
 pub mod LaidOut
 pub mod Places
 pub mod Gathered
+pub mod Filed
 pub mod Planned

@@ -5,8 +5,9 @@ ghost use Rattle.freq_range.specs.Valid.{IsValidEntry, IsValidWmm, IsValidRule};
 ghost use Rattle.rule_tables.specs.Databases.{IsDomain};
 ghost use Rattle.rule_tables.specs.FileFormat.{region_number};
 ghost use Rattle.db_writer.specs.Records.{wmm_entry_bytes, wmm_bytes, bit, flags_byte};
-ghost use Rattle.db_writer.specs.LaidOut.{wmm_place, rule_record, rule_place, collection_record};
-ghost use Rattle.db_writer.specs.Gathered.{wmm_of, wmm_of_domain, records_of_domain, HasWmmAmong, IsFiled, AreFiled};
+ghost use Rattle.db_writer.specs.LaidOut.{wmm_place, rule_record, collection_record};
+ghost use Rattle.db_writer.specs.Gathered.{wmm_of, wmm_of_domain, records_of_domain, HasWmmAmong};
+ghost use Rattle.db_writer.specs.Filed.{rule_at_in, IsFiled, AreFiled};
 
 use crate::records::{CollectionRecord, Places, RuleRecord, WmmRecord};
 use crate::section::{Section, place_of};
@@ -15,6 +16,13 @@ use freq_range::{Rule, RuleFlags, Wmm, WmmEntry};
 use reg_base::OutOfMemory;
 use rule_tables::{Domain, Region};
 use std::alloc::Global;
+
+/// The sections in which rules are looked up.
+#[derive(Drop)]
+pub struct RuleSections {
+    pub wmm_rules: Section<WmmRecord>,
+    pub rules: Section<RuleRecord>,
+}
 
 /// The bytes of an entry of a WMM rule.
 #[tactic(auto, unfolding(crate::specs::Records::wmm_entry_bytes, crate::specs::Records::be16))]
@@ -175,28 +183,27 @@ pub fn rules_of(
 
 /// The place of a rule.
 #[tactic(auto, unfolding(crate::specs::LaidOut::rule_place))]
-fn rule_place(rule: &Rule, wmm_rules: &Section<WmmRecord>, rules: &Section<RuleRecord>) -> u64
+fn rule_place(rule: &Rule, sections: &RuleSections) -> u64
     requires valid { IsValidRule rule.now }
-    requires there { IsFiled wmm_rules.now.first wmm_rules.now.records.items rules.now.records.items rule.now }
-    ensures { result ≡ rule_place (wmm_place wmm_rules.now.first wmm_rules.now.records.items) rules.now.first rules.now.records.items rule.now }
+    requires there { IsFiled sections.now rule.now }
+    ensures { result ≡ rule_at_in sections.now rule.now }
 {
-    place_of(rules, &rule_record(rule, wmm_rules))
+    place_of(&sections.rules, &rule_record(rule, &sections.wmm_rules))
 }
 
 /// The places of the rules.
 fn places_of_rules(
     alloc: Global,
-    domain: &[Rule],
-    wmm_rules: &Section<WmmRecord>,
-    rules: &Section<RuleRecord>,
+    rules: &[Rule],
+    sections: &RuleSections,
 ) -> Result<Places, OutOfMemory>
-    requires valid { All IsValidRule domain.now }
-    requires there { All (IsFiled wmm_rules.now.first wmm_rules.now.records.items rules.now.records.items) domain.now }
-    ensures { IfOk result (λ places. places ≡ map (rule_place (wmm_place wmm_rules.now.first wmm_rules.now.records.items) rules.now.first rules.now.records.items) domain.now) }
+    requires valid { All IsValidRule rules.now }
+    requires there { All (IsFiled sections.now) rules.now }
+    ensures { IfOk result (λ places. places ≡ map (rule_at_in sections.now) rules.now) }
 {
     let mut places = Places::new(alloc);
-    for rule in domain {
-        places.push(rule_place(rule, wmm_rules, rules))?;
+    for rule in rules {
+        places.push(rule_place(rule, sections))?;
     }
     Ok(places)
 }
@@ -218,15 +225,14 @@ fn region_number(region: Region) -> u8
 pub fn collection_record(
     alloc: Global,
     domain: &Domain,
-    wmm_rules: &Section<WmmRecord>,
-    rules: &Section<RuleRecord>,
+    sections: &RuleSections,
 ) -> Result<CollectionRecord, OutOfMemory>
     requires valid { All IsValidRule domain.now.rules }
-    requires there { AreFiled wmm_rules.now.first wmm_rules.now.records.items rules.now.records.items domain.now }
-    ensures { IfOk result (λ c. c ≡ collection_record (rule_place (wmm_place wmm_rules.now.first wmm_rules.now.records.items) rules.now.first rules.now.records.items) domain.now) }
+    requires there { AreFiled sections.now domain.now }
+    ensures { IfOk result (λ c. c ≡ collection_record (rule_at_in sections.now) domain.now) }
 {
     let region = region_number(domain.region);
-    let rules = places_of_rules(alloc, domain.rules.as_slice(), wmm_rules, rules)?;
+    let rules = places_of_rules(alloc, domain.rules.as_slice(), sections)?;
     Ok(CollectionRecord { region, rules })
 }
 
@@ -234,16 +240,15 @@ pub fn collection_record(
 pub fn collections_of(
     alloc: Global,
     domains: &[Domain],
-    wmm_rules: &Section<WmmRecord>,
-    rules: &Section<RuleRecord>,
+    sections: &RuleSections,
 ) -> Result<Vec<CollectionRecord>, OutOfMemory>
     requires valid { All IsDomain domains.now }
-    requires there { All (AreFiled wmm_rules.now.first wmm_rules.now.records.items rules.now.records.items) domains.now }
-    ensures { IfOk result (λ records. records.items ≡ map (collection_record (rule_place (wmm_place wmm_rules.now.first wmm_rules.now.records.items) rules.now.first rules.now.records.items)) domains.now) }
+    requires there { All (AreFiled sections.now) domains.now }
+    ensures { IfOk result (λ records. records.items ≡ map (collection_record (rule_at_in sections.now)) domains.now) }
 {
     let mut records = Vec::new(alloc);
     for domain in domains {
-        records.push(collection_record(alloc, domain, wmm_rules, rules)?)?;
+        records.push(collection_record(alloc, domain, sections)?)?;
     }
     Ok(records)
 }

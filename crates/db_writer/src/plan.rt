@@ -5,11 +5,12 @@ ghost use Rattle.rule_tables.specs.Databases.{IsDb, IsDomain};
 ghost use Rattle.rule_tables.specs.declared.domain.Domain.{Domain};
 ghost use Rattle.db_writer.specs.Order.{IsSection};
 ghost use Rattle.db_writer.specs.Records.{rule_key, rule_words, collection_key, collection_words};
-ghost use Rattle.db_writer.specs.LaidOut.{UsesWmm, UsesRule, UsesCollection, wmm_place, rule_place, first_wmm, last_collection};
-ghost use Rattle.db_writer.specs.Gathered.{AreFiled, HasWmmAmong};
+ghost use Rattle.db_writer.specs.LaidOut.{UsesWmm, UsesRule, UsesCollection, wmm_place, first_wmm, last_collection};
+ghost use Rattle.db_writer.specs.Gathered.{HasWmmAmong};
+ghost use Rattle.db_writer.specs.Filed.{rule_at_in, AreFiled};
 ghost use Rattle.db_writer.specs.Planned.{IsPlanOf, IsSmall, sections_in};
 
-use crate::gather::{collections_of, rules_of, wmm_rules_of};
+use crate::gather::{RuleSections, collections_of, rules_of, wmm_rules_of};
 use crate::records::{CollectionRecord, RuleRecord, WmmRecord};
 use crate::section::{Section, section_of, words_of};
 use reg_base::OutOfMemory;
@@ -19,8 +20,7 @@ use std::alloc::Global;
 /// The sections of records of a file.
 #[derive(Drop)]
 pub struct Plan {
-    pub wmm_rules: Section<WmmRecord>,
-    pub rules: Section<RuleRecord>,
+    pub rules: RuleSections,
     pub collections: Section<CollectionRecord>,
 }
 
@@ -61,20 +61,19 @@ fn rule_section(
 fn collection_section(
     alloc: Global,
     domains: &[Domain],
-    wmm_rules: &Section<WmmRecord>,
-    rules: &Section<RuleRecord>,
+    rules: &RuleSections,
     first: u64,
 ) -> Result<Section<CollectionRecord>, OutOfMemory>
     requires valid { All IsDomain domains.now }
     requires few { length domains.now ≤ 65536 }
-    requires there { All (AreFiled wmm_rules.now.first wmm_rules.now.records.items rules.now.records.items) domains.now }
+    requires there { All (AreFiled rules.now) domains.now }
     requires low { first ≤ 2 ^ 32 }
     ensures first { IfOk result (λ s. s.first ≡ first) }
-    ensures section { IfOk result (λ s. IsSection collection_key (UsesCollection (rule_place (wmm_place wmm_rules.now.first wmm_rules.now.records.items) rules.now.first rules.now.records.items) domains.now) s.records.items) }
+    ensures section { IfOk result (λ s. IsSection collection_key (UsesCollection (rule_at_in rules.now) domains.now) s.records.items) }
     ensures few { IfOk result (λ s. length s.records.items ≤ 2 ^ 23) }
     ensures short { IfOk result (λ s. All (λ c. collection_words c ≤ 65) s.records.items) }
 {
-    let records = collections_of(alloc, domains, wmm_rules, rules)?;
+    let records = collections_of(alloc, domains, rules)?;
     let section = section_of(alloc, records, first)?;
     Ok(section)
 }
@@ -108,12 +107,9 @@ pub fn plan_of(alloc: Global, domains: &[Domain]) -> Result<Plan, OutOfMemory>
     let wmm_rules = wmm_section(alloc, domains)?;
     let rules = rule_section(alloc, domains, &wmm_rules, end_of_wmm(&wmm_rules))?;
     let first = end_of_rules(&rules);
-    let collections = collection_section(alloc, domains, &wmm_rules, &rules, first)?;
-    Ok(Plan {
-        wmm_rules,
-        rules,
-        collections,
-    })
+    let rules = RuleSections { wmm_rules, rules };
+    let collections = collection_section(alloc, domains, &rules, first)?;
+    Ok(Plan { rules, collections })
 }
 
 /// The place of the last collection, in words.

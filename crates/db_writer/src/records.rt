@@ -92,6 +92,9 @@ impl Ord for Places {
     }
 }
 
+/// The record of a WMM rule: its bytes.
+pub type WmmRecord = [u8; 32];
+
 /// What the record of a rule says.
 #[derive(Clone, Copy, Debug, PartialEq, Eq, PartialOrd, Ord)]
 pub struct RuleRecord {
@@ -119,6 +122,3 @@ pub struct CollectionRecord {
     /// The places of the rules, in words of 4 bytes.
     pub rules: Places,
 }
-
-/// The record of a WMM rule: its bytes.
-pub type WmmRecord = [u8; 32];

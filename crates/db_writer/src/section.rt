@@ -14,9 +14,12 @@ pub trait Record: Ord {
     /// The list of numbers by which records are ordered.
     ghost key: { Self → List ℕ };
 
+    /// How many words of 4 bytes it takes.
     ghost words: { Self → ℕ };
 
+    /// Its bytes.
     ghost bytes: { Self → List ℕ };
+
     /// Its numbers fit the fields that the file has for them.
     ghost fits: { Self → Type 0 };
 
@@ -29,8 +32,10 @@ pub trait Record: Ord {
         requires { fits self.now }
         ensures { OnOk result (out.new ≡ out.old ++ bytes self.now) };
 
+    /// To compare records is to compare their keys.
     ghost by_key: { (x y : Self) → Self.cmp x y ≡ slice_cmp nat_cmp (key x) (key y) };
 
+    /// Records of one key are the same.
     ghost told_by_key: { (x y : Self) → key x ≡ key y → x ≡ y };
 }
 
@@ -60,7 +65,9 @@ fn put_in_order<T: Record + Drop>(records: &mut Vec<T>)
 /// Records in ascending order, each once, and the place of each, in words of 4 bytes.
 #[derive(Drop)]
 pub struct Section<T: Record> {
+    /// Where the section begins, in words of 4 bytes.
     pub first: u64,
+    /// The records in ascending order, each once.
     pub records: Vec<T>,
     places: Vec<u64>,
     ghost placed: { IsPlaced T.key T.words first records.items places.items },

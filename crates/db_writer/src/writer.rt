@@ -73,8 +73,8 @@ fn put_file(
     put_u32(out, VERSION)?;
     put_entries(out, alloc, domains, plan)?;
     put_u32(out, 0)?;
-    put_records(out, plan.wmm_rules.records.as_slice())?;
-    put_records(out, plan.rules.records.as_slice())?;
+    put_records(out, plan.rules.wmm_rules.records.as_slice())?;
+    put_records(out, plan.rules.rules.records.as_slice())?;
     put_records(out, plan.collections.records.as_slice())?;
     Ok(())
 }
@@ -119,6 +119,6 @@ fn place_of_collection(alloc: Global, domain: &Domain, plan: &Plan) -> Result<u6
     requires { IsReady plan.now domain.now }
     ensures { IfOk result (λ place. place ≡ planned_collection plan.now domain.now) }
 {
-    let record = collection_record(alloc, domain, &plan.wmm_rules, &plan.rules)?;
+    let record = collection_record(alloc, domain, &plan.rules)?;
     Ok(place_of(&plan.collections, &record))
 }

@@ -21,4 +21,4 @@ pub collection_section-requires-clause-few : goal.collection_section-requires-cl
 collection_section-requires-clause-few c = few_domains _ c.requires
 
 pub collection_section-requires-clause-there : goal.collection_section-requires-clause-there
-collection_section-requires-clause-there c = all_filed _ _ _ _ c.in_ok-wmm_rules.ensures.section c.in_ok-rules.ensures.section
+collection_section-requires-clause-there c = all_filed _ _ c.in_ok-wmm_rules.ensures.section c.in_ok-rules.ensures.section
