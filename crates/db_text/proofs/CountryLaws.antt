@@ -1,15 +1,11 @@
 -- What is kept of countries says what the lines say, a further line included.
-use Rattle.std.proofs.Common.{◌≡◌, ◌≢◌, ℕ, ◌+◌, ◌<◌, ◌≤◌, ◌⊎◌, Bool, true, false, List, [], ◌∷◌, ◌++◌, length, take, get_or, Contains, Option, Some, None, IfSome, All, arith, refl, sym, subst, ◌∙◌, ap, inl, inr, if◌then◌else◌}
-use Rattle.std.proofs.lemmas.Bool.{cases_Bool, cases_eq}
+use Rattle.std.proofs.Common.{◌≡◌, ◌≢◌, ℕ, ◌+◌, ◌<◌, false, List, [], ◌∷◌, ◌++◌, length, take, get_or, Contains, Option, Some, None, IfSome, All, arith, refl, sym, subst, ◌∙◌, inl, inr}
+use Rattle.std.proofs.lemmas.Bool.{cases_eq}
 use Rattle.std.proofs.lemmas.List.{take_more}
 use Rattle.std.proofs.lemmas.List.Elements.{Contains-get_or, Contains-append_left, Contains-append_right, Contains-append_cases}
 use Rattle.std.specs.BTreeMap.{get}
-use Rattle.std.specs.List.{list_any}
 use Rattle.std.specs.Ordering.{nat_cmp}
-use Rattle.freq_range.proofs.Members.{Contains-head, Contains-later, Contains-cases, Contains-nothing}
-use Rattle.freq_range.specs.First.{IsFirst}
-use Rattle.freq_range.specs.declared.rule.Rule.{Rule}
-use Rattle.rule_tables.proofs.Dropped.{DropsRepeats-keeps, DropsRepeats-only}
+use Rattle.freq_range.proofs.Members.{Contains-head, Contains-cases, Contains-nothing}
 use Rattle.rule_tables.proofs.Inserted.{same_key}
 use Rattle.rule_tables.specs.Code.{IsCode, key}
 use Rattle.rule_tables.specs.FileFormat.{DropsRepeats}
@@ -19,12 +15,11 @@ use Rattle.db_text.specs.declared.countries.Country.{Country as Kept}
 use Rattle.db_text.specs.declared.fault.LineStop.{LineStop}
 use Rattle.db_text.specs.declared.fault.LineStop.TheVariants.{Kind, OutOfMemory}
 use Rattle.db_text.specs.declared.fault.TextKind.TheVariants.{RegionDiffers}
-use Rattle.db_text.specs.Faults.{HasTooMany, IsContradicted}
-use Rattle.db_text.specs.Forms.{Form, Names, block_of, form_at, is_of_code, rules_of, same_code, with_named}
-use Rattle.db_text.specs.Forms.Block.{OfCountries}
+use Rattle.db_text.specs.Faults.{IsContradicted}
+use Rattle.db_text.specs.Forms.{Form, Names, block_of, is_of_code, rules_of}
 use Rattle.db_text.specs.Forms.Form.{Country, Empty, ItemLine, RuleLine, WmmHeader}
-use Rattle.db_text.specs.State.{AddsRule, AddsTo, AreCountries, AreRuled, Countries, IsAdded, IsCountryOf, IsHeaderAt, IsKeptCountry, IsOpenAllStop, IsOpenStop, IsOpened, OpensCountry, country_of, forms_at, new_country}
-use Rattle.db_text.proofs.FormLaws.{HeaderAt-above, HeaderAt-more, HeaderAt-names, HeaderAt-within, Names-cases, Names-later, Names-top, Names-top_cases, among_false, among_true, block_named_by, cases_among, cases_code, first_header-more, form_at_cases, form_at_more, form_at_top, rules_of-unnamed, same_code-apart, same_code-itself}
+use Rattle.db_text.specs.State.{AreCountries, Countries, IsCountryOf, IsHeaderAt, IsKeptCountry, IsOpenAllStop, IsOpenStop, IsOpened, OpensCountry, country_of}
+use Rattle.db_text.proofs.FormLaws.{HeaderAt-above, HeaderAt-more, HeaderAt-names, HeaderAt-within, Names-cases, Names-later, Names-top, Names-top_cases, cases_code, first_header-more, form_at_cases, form_at_more, form_at_top, rules_of-unnamed}
 
 -- ---- lines that say nothing of a code
 
@@ -86,10 +81,14 @@ other_codes cs ds region above code (Some kept) to from is = record {
     | inl top ↦ is.one_region r (subst (λ x. Names (Country cs region ∷ above) code x) top.1 (Names-top cs region above code (from top.0)))
     | inr later ↦ is.one_region r (Names-later (Country cs region) above code r later)
   ];
-  first_header = (is.first_header.0, is.first_header.1, record {
-    here = turned cs ds to is.first_header.0 is.first_header.2.here;
-    none_before = λ j less at. is.first_header.2.none_before j less (turned ds cs from j at);
-  });
+  first_header = (
+    is.first_header.0,
+    is.first_header.1,
+    record {
+      here = turned cs ds to is.first_header.0 is.first_header.2.here;
+      none_before = λ j less at. is.first_header.2.none_before j less (turned ds cs from j at);
+    },
+  );
   rules_are = is.rules_are;
   few = is.few;
 }
@@ -112,12 +111,16 @@ opened_here cs region above code None new is opened = subst (IsCountryOf (Countr
     | inl top ↦ sym top.1
     | inr later ↦ absurd (is r (Names-later (Country cs region) above code r later))
   ];
-  first_header = (length above, refl, record {
-    here = (cs ++ code ∷ [], region, form_at_top (Country (cs ++ code ∷ []) region) above, Contains-append_right cs (code ∷ []) code (Contains-head code []));
-    none_before = λ j less at.
-        let n = HeaderAt-names above code j (HeaderAt-above (Country (cs ++ code ∷ []) region) above code j less at) in
-        is n.0 (Names-later (Country cs region) above code n.0 n.1);
-  });
+  first_header = (
+    length above,
+    refl,
+    record {
+      here = (cs ++ code ∷ [], region, form_at_top (Country (cs ++ code ∷ []) region) above, Contains-append_right cs (code ∷ []) code (Contains-head code []));
+      none_before = λ j less at.
+          let n = HeaderAt-names above code j (HeaderAt-above (Country (cs ++ code ∷ []) region) above code j less at) in
+          is n.0 (Names-later (Country cs region) above code n.0 n.1);
+    },
+  );
   rules_are = subst (λ rules. DropsRepeats rules []) (sym (rules_of-unnamed above code (λ r named. is r (Names-later (Country cs region) above code r named)))) refl;
   few = omega arith;
 })
@@ -132,19 +135,30 @@ opened_here cs region above code (Some kept) new is opened = subst (IsCountryOf 
     | inl top ↦ sym (opened.1 ∙ top.1)
     | inr later ↦ is.one_region r (Names-later (Country cs region) above code r later)
   ];
-  first_header = (is.first_header.0, is.first_header.1, record {
-    here = elim (form_at_cases (Country is.first_header.2.here.0 is.first_header.2.here.1) (Country cs region) above is.first_header.0 is.first_header.2.here.2) [
-      | inl top ↦ (cs ++ code ∷ [], region, rw top.0 (form_at_top (Country (cs ++ code ∷ []) region) above),
-            Contains-append_right cs (code ∷ []) code (Contains-head code []))
-      | inr later ↦ (is.first_header.2.here.0, is.first_header.2.here.1,
-            form_at_more (Country is.first_header.2.here.0 is.first_header.2.here.1) (Country (cs ++ code ∷ []) region) above is.first_header.0 later,
-            is.first_header.2.here.3)
-    ];
-    none_before = λ j less at.
-        let within = HeaderAt-within (Country cs region ∷ above) code is.first_header.0 is.first_header.2.here in
-        is.first_header.2.none_before j less (HeaderAt-more (Country cs region) above code j
-            (HeaderAt-above (Country (cs ++ code ∷ []) region) above code j (omega (arith, less, within)) at));
-  });
+  first_header = (
+    is.first_header.0,
+    is.first_header.1,
+    record {
+      here = elim (form_at_cases (Country is.first_header.2.here.0 is.first_header.2.here.1) (Country cs region) above is.first_header.0 is.first_header.2.here.2) [
+        | inl top ↦ (
+          cs ++ code ∷ [],
+          region,
+          rw top.0 (form_at_top (Country (cs ++ code ∷ []) region) above),
+          Contains-append_right cs (code ∷ []) code (Contains-head code []),
+        )
+        | inr later ↦ (
+          is.first_header.2.here.0,
+          is.first_header.2.here.1,
+          form_at_more (Country is.first_header.2.here.0 is.first_header.2.here.1) (Country (cs ++ code ∷ []) region) above is.first_header.0 later,
+          is.first_header.2.here.3,
+        )
+      ];
+      none_before = λ j less at.
+          let within = HeaderAt-within (Country cs region ∷ above) code is.first_header.0 is.first_header.2.here in
+          is.first_header.2.none_before j less (HeaderAt-more (Country cs region) above code j
+          (HeaderAt-above (Country (cs ++ code ∷ []) region) above code j (omega (arith, less, within)) at));
+    },
+  );
   rules_are = is.rules_are;
   few = is.few;
 })
@@ -182,16 +196,16 @@ pub opened_more : (cs : List Alpha2) (region : Region) (above : List Form) (line
 opened_more cs region above line code old new is_code at are opens = record {
   each = each_after code old new (λ other. Country cs region ∷ above) (λ other. Country (cs ++ code ∷ []) region ∷ above) is_code opens.others
       (λ other o apart is. other_codes cs (cs ++ code ∷ []) region above other o (Contains-append_left cs (code ∷ []) other)
-          (λ has. elim (Contains-append_cases cs (code ∷ []) other has) [
-            | inl early ↦ early
-            | inr late ↦ elim (Contains-cases code [] other late) [
-              | inl here ↦ absurd (apart (sym here))
-              | inr none ↦ absurd (Contains-nothing other none)
-            ]
-          ]) is)
+      (λ has. elim (Contains-append_cases cs (code ∷ []) other has) [
+        | inl early ↦ early
+        | inr late ↦ elim (Contains-cases code [] other late) [
+          | inl here ↦ absurd (apart (sym here))
+          | inr none ↦ absurd (Contains-nothing other none)
+        ]
+      ]) is)
       are.each
       (opened_here cs region above code (country_of old code) (country_of new code) (are.each code is_code)
-          (subst (λ n. IsOpened code region n (country_of old code) (country_of new code)) at opens.here));
+      (subst (λ n. IsOpened code region n (country_of old code) (country_of new code)) at opens.here));
   keys = keys_after code old new (λ q kept. IsCode kept.alpha2 × (q ≡ key kept.alpha2)) opens.others are.keys
       (opened_key code region line (country_of old code) (country_of new code) is_code opens.here (are.keys (key code)));
 }
@@ -232,7 +246,7 @@ pub opened_step : (cs : List Alpha2) (i : ℕ) (region : Region) (above : List F
 opened_step cs i region above line old new in_range at codes are opens =
     let code = get_or cs i (record { a = 0; b = 0 }) in
     subst (λ xs. AreCountries (Country xs region ∷ above) new) (sym (take_more cs i (record { a = 0; b = 0 }) in_range))
-        (opened_more (take i cs) region above line code old new (codes i (record { a = 0; b = 0 }) in_range) at are opens)
+    (opened_more (take i cs) region above line code old new (codes i (record { a = 0; b = 0 }) in_range) at are opens)
 
 pub open_all_stop : (cs : List Alpha2) (i : ℕ) (region : Region) (above : List Form) (old : Countries) (stop : LineStop) → i < length cs → All IsCode cs
     → AreCountries (Country (take i cs) region ∷ above) old → IsOpenStop (get_or cs i (record { a = 0; b = 0 })) region old stop → IsOpenAllStop above cs region stop

@@ -1,12 +1,6 @@
 -- An empty line is taken.
-use Rattle.std.proofs.Common.{◌≡◌, ◌≢◌, ℕ, ◌+◌, ◌<◌, List, [], ◌∷◌, ◌++◌, length, arith, refl, sym, subst, ◌∙◌, ap, inl, inr}
-use Rattle.std.proofs.lemmas.List.{length-append}
+use Rattle.std.proofs.Common.{◌≡◌, ℕ, List, [], ◌∷◌, sym, subst}
 use Rattle.db_text.specs.declared.fault.TextKind.{TextKind}
-use Rattle.db_text.specs.declared.fault.TextKind.TheVariants.{BadBand, BadCountry, BadFlag, BadLine, BadPower, BadRegion, BadWmm, FlagNotInVersion, NoBlock, NoWmm, RegionDiffers, TooManyRules, WmmTwice}
-use Rattle.db_text.specs.declared.form.Item.{Item}
-use Rattle.db_text.specs.declared.form.Item.TheVariants.{VoC, ViC, BeC, BkC, VoAp, ViAp, BeAp, BkAp}
-use Rattle.db_text.specs.declared.form.Opening.{Opening}
-use Rattle.db_text.specs.declared.form.Opening.TheVariants.{Country as OfCountry, Wmm as OfWmm, Rule as OfRule, Item as OfItem}
 use Rattle.db_text.specs.declared.parser.Open.{Open}
 use Rattle.db_text.specs.declared.parser.Open.TheVariants.{Nothing, Countries as OpenCountries, Wmm as OpenWmm}
 use Rattle.db_text.specs.declared.parser.Parser.{Parser}
@@ -14,10 +8,8 @@ use Rattle.rule_tables.specs.declared.code.Alpha2.{Alpha2}
 use Rattle.db_text.specs.Faults.{IsWrong}
 use Rattle.db_text.specs.Forms.{Form}
 use Rattle.db_text.specs.Forms.Form.{Empty}
-use Rattle.db_text.specs.Spelling.{Opens, opening_text, region_name}
 use Rattle.db_text.specs.State.{IsOpen, Stands, TakesBare}
 use Rattle.db_text.proofs.CountryLaws.{quiet_countries}
-use Rattle.db_text.proofs.LineForms.{HasCodes-opens, IsSpelledRule-opens, IsWmmHeader-opens}
 use Rattle.db_text.proofs.EmptyLines.{empty_good}
 use Rattle.db_text.proofs.WmmLaws.{quiet_blocks}
 

@@ -1,14 +1,14 @@
 -- What the parser holds behind the last line: all countries, all WMM rules, and the first header that is left short.
-use Rattle.std.proofs.Common.{◌≡◌, ◌≢◌, ℕ, ◌+◌, ◌<◌, ◌≤◌, ◌⊎◌, Bool, List, [], ◌∷◌, ◌++◌, length, map, get_or, Contains, Option, Some, None, IfSome, All, AllPairs, arith, refl, sym, subst, ◌∙◌, ap, inl, inr}
-use Rattle.std.proofs.lemmas.Bool.{cases_Bool, cases_lt}
+use Rattle.std.proofs.Common.{◌≡◌, ◌≢◌, ℕ, ◌<◌, Bool, List, [], ◌∷◌, length, map, get_or, Contains, Option, Some, None, IfSome, arith, refl, sym, subst, ◌∙◌, ap, inl, inr}
+use Rattle.std.proofs.lemmas.Bool.{cases_Bool}
 use Rattle.std.proofs.lemmas.Cmp.{nat_cmp_total}
 use Rattle.std.proofs.lemmas.List.{length-map, get_or-map}
-use Rattle.std.proofs.lemmas.List.Elements.{All-contains, All-map}
+use Rattle.std.proofs.lemmas.List.Elements.{All-map}
 use Rattle.std.proofs.lemmas.Option.{same_Some}
 use Rattle.std.proofs.lemmas.Map.Keys.{below_from_sorted}
 use Rattle.std.proofs.lemmas.Map.Lookups.{exact_unsigned}
 use Rattle.std.proofs.lemmas.Map.Views.{All-found, btree_map_get_iff}
-use Rattle.std.specs.BTreeMap.{BTreeMap, IsOrdered, get, is_at, keys, values}
+use Rattle.std.specs.BTreeMap.{IsOrdered, get, is_at, keys, values}
 use Rattle.std.specs.Cmp.{IsTotalOrder}
 use Rattle.std.specs.Cmp.Lexicographic.{on_texts, slice_cmp}
 use Rattle.std.specs.Map.{lookup}
@@ -16,12 +16,9 @@ use Rattle.std.specs.declared.alloc.Global.{Global}
 use Rattle.std.specs.declared.vec.Vec.{Vec}
 use Rattle.std.specs.Ordering.{nat_cmp}
 use Rattle.freq_range.proofs.Members.{Contains-head, Contains-later}
-use Rattle.freq_range.specs.First.{IsFirst}
 use Rattle.rule_tables.specs.Code.{IsCode, key}
-use Rattle.rule_tables.specs.declared.code.Alpha2.{Alpha2}
-use Rattle.rule_tables.specs.declared.code.Region.{Region}
 use Rattle.db_text.specs.declared.countries.Country.{Country as Kept}
-use Rattle.db_text.specs.Forms.{Form, Names, wmm_of}
+use Rattle.db_text.specs.Forms.{Form, wmm_of}
 use Rattle.db_text.specs.declared.wmm_rules.WmmBlock.{WmmBlock}
 use Rattle.db_text.specs.State.{AreAllBlocks, AreAllCountries, AreBlocks, AreCountries, Blocks, Countries, IsBlockOf, IsCountryOf, IsKeptCountry, block_named, country_of}
 use Rattle.db_text.proofs.CountryLaws.{named_country}
@@ -83,12 +80,13 @@ pub all_blocks : (forms : List Form) (m : Blocks) (bs : List WmmBlock) → bs �
 all_blocks forms m bs is ordered are = subst (AreAllBlocks forms) (sym is) (record {
   each = All-map (λ block. (name : List ℕ) × IsBlockOf forms name (Some block)) (λ (e : Vec ℕ Global × WmmBlock). e.1) m.entries
       (λ k d in_range. let e = get_or m.entries k d in
-          (e.0.items, subst (IsBlockOf forms e.0.items) (All-found vec_total m ordered k d in_range) (are e.0.items)));
+      (e.0.items, subst (IsBlockOf forms e.0.items) (All-found vec_total m ordered k d in_range) (are e.0.items)));
   all = λ name some. by_option name (block_named m name) refl some (are name);
 })
   where
     vec_total : IsTotalOrder (λ (x y : Vec ℕ Global). slice_cmp nat_cmp x.items y.items)
     vec_total = on_texts (λ (x : Vec ℕ Global). x.items)
+
     by_option : (name : List ℕ) (o : Option WmmBlock) → block_named m name ≡ o → wmm_of name forms ≢ None → IsBlockOf forms name o
         → (block : WmmBlock) × Contains (values m) block × IsBlockOf forms name (Some block)
     by_option name None e some none = absurd (some none)

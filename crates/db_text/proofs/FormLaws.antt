@@ -1,13 +1,10 @@
 -- What a further line changes of what the lines above it say.
-use Rattle.std.proofs.Common.{◌≡◌, ◌≢◌, ℕ, ◌+◌, ◌<◌, ◌⊎◌, Bool, true, false, List, [], ◌∷◌, ◌++◌, length, Contains, Option, Some, None, All, arith, refl, sym, subst, ◌∙◌, ap, inl, inr, eq-eqb}
-use Rattle.std.proofs.lemmas.Bool.{cases_Bool, cases_eq, ne_eqb, eqb-true}
+use Rattle.std.proofs.Common.{◌≡◌, ◌≢◌, ℕ, ◌<◌, ◌⊎◌, true, false, List, [], ◌∷◌, length, Contains, Some, arith, refl, sym, subst, ◌∙◌, ap, inl, inr, eq-eqb}
+use Rattle.std.proofs.lemmas.Bool.{cases_eq, ne_eqb}
 use Rattle.std.proofs.lemmas.Option.{same_Some}
-use Rattle.std.proofs.lemmas.List.Elements.{All-contains}
 use Rattle.std.specs.List.{list_any}
 use Rattle.freq_range.proofs.Members.{Contains-head, Contains-later, Contains-cases, Contains-nothing}
 use Rattle.freq_range.specs.First.{IsFirst}
-use Rattle.freq_range.specs.declared.rule.Rule.{Rule}
-use Rattle.rule_tables.specs.Code.{IsCode}
 use Rattle.rule_tables.specs.declared.code.Alpha2.{Alpha2}
 use Rattle.rule_tables.specs.declared.code.Region.{Region}
 use Rattle.db_text.specs.Forms.{Block, Form, Names, block_of, form_at, is_of_code, rules_of, same_code}
@@ -54,10 +51,13 @@ cases_among code (c ∷ cs) = elim (cases_code code c) [
   | inl same ↦ inl (subst (Contains (c ∷ cs)) (sym same) (Contains-head c cs), rw (ap (same_code code) (sym same) ∙ same_code-itself code) refl)
   | inr apart ↦ elim (cases_among code cs) [
     | inl among ↦ inl (Contains-later c cs code among.0, rw (apart.1, among.1) refl)
-    | inr none ↦ inr (λ has. elim (Contains-cases c cs code has) [
+    | inr none ↦ inr (
+      λ has. elim (Contains-cases c cs code has) [
         | inl here ↦ apart.0 (sym here)
         | inr later ↦ none.0 later
-      ], rw (apart.1, none.1) refl)
+      ],
+      rw (apart.1, none.1) refl,
+    )
   ]
 ]
 

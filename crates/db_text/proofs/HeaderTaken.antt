@@ -1,5 +1,5 @@
 -- A header is taken, or has the first kind of fault that applies.
-use Rattle.std.proofs.Common.{◌≡◌, ◌≢◌, ℕ, ◌+◌, ◌<◌, List, [], ◌∷◌, length, Contains, None, All, arith, refl, sym, subst, ◌∙◌, ap, inl, inr}
+use Rattle.std.proofs.Common.{◌≡◌, ℕ, List, ◌∷◌, length, None, arith, refl, subst, ap, inl}
 use Rattle.std.proofs.lemmas.List.Elements.{All-contains}
 use Rattle.rule_tables.specs.Code.{IsCode}
 use Rattle.rule_tables.specs.declared.code.Alpha2.{Alpha2}
@@ -12,11 +12,11 @@ use Rattle.db_text.specs.declared.fault.TextKind.TheVariants.{BadCountry, BadReg
 use Rattle.db_text.specs.declared.form.Opening.TheVariants.{Country as OfCountry, Wmm as OfWmm}
 use Rattle.db_text.specs.Faults.{IsContradicted, IsWrong}
 use Rattle.db_text.specs.Forms.{Form, wmm_of}
-use Rattle.db_text.specs.Forms.Form.{Country, WmmHeader}
+use Rattle.db_text.specs.Forms.Form.{Country}
 use Rattle.db_text.specs.Reading.{IsHeaderStop}
-use Rattle.db_text.specs.Spelling.{HasCodes, IsHeader, IsWmmHeader, Opens, region_name}
+use Rattle.db_text.specs.Spelling.{IsHeader, IsWmmHeader, Opens, region_name}
 use Rattle.db_text.specs.State.{AreBlocks, AreCountries, Blocks, Countries, IsBareFault, IsBareStop, IsOpenAllStop, IsOpenWmmStop, OpensWmm}
-use Rattle.db_text.proofs.CountryLaws.{quiet_countries, uncontradicted}
+use Rattle.db_text.proofs.CountryLaws.{uncontradicted}
 use Rattle.db_text.proofs.LineForms.{HasCodes-opens, HasCodes-unique, IsWmmHeader-opens, IsWmmHeader-unique}
 use Rattle.db_text.proofs.LineLaws.{country_first, good, wmm_first, wmm_header_wrong}
 use Rattle.db_text.proofs.WmmLaws.{opened_once, opened_twice}
@@ -70,10 +70,10 @@ header_good above line cs region countries is are = good above line (country_fir
     (λ less wrong. wrong.1 cs (region_name region) is)
     (λ less wrong. wrong.1 cs region is)
     (λ less wrong.
-        let same = HasCodes-unique line wrong.0 cs (region_name wrong.1) (region_name region) wrong.2 is in
-        let one = region_name-unique wrong.1 region same.1 in
-        uncontradicted cs region above countries are (λ code has. All-contains IsCode cs code is.are.each has)
-            (subst (λ xs. IsContradicted above xs region) same.0 (subst (IsContradicted above wrong.0) one wrong.3))))
+    let same = HasCodes-unique line wrong.0 cs (region_name wrong.1) (region_name region) wrong.2 is in
+    let one = region_name-unique wrong.1 region same.1 in
+    uncontradicted cs region above countries are (λ code has. All-contains IsCode cs code is.are.each has)
+    (subst (λ xs. IsContradicted above xs region) same.0 (subst (IsContradicted above wrong.0) one wrong.3))))
 
 -- ---- WMM rules
 
@@ -99,5 +99,5 @@ pub wmm_good : (above : List Form) (line name : List ℕ) (number : ℕ) (old ne
 wmm_good above line name number old new is are opens =
     let begins = IsWmmHeader-opens line name is in
     good above line (wmm_first above line 18 begins
-        (λ less wrong. wmm_header_wrong above line begins wrong name is)
-        (λ less wrong. wrong.2 (subst (λ n. wmm_of n above ≡ None) (IsWmmHeader-unique line name wrong.0 is wrong.1) (opened_once name number above old new are opens))))
+    (λ less wrong. wmm_header_wrong above line begins wrong name is)
+    (λ less wrong. wrong.2 (subst (λ n. wmm_of n above ≡ None) (IsWmmHeader-unique line name wrong.0 is wrong.1) (opened_once name number above old new are opens))))

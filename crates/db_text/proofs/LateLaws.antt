@@ -1,5 +1,5 @@
 -- The first header that is left short, by what the parser holds behind the last line.
-use Rattle.std.proofs.Common.{◌≡◌, ◌≢◌, ℕ, ◌+◌, ◌<◌, ◌≤◌, ◌⊎◌, List, [], ◌∷◌, length, Contains, Option, Some, None, All, arith, refl, sym, subst, ◌∙◌, ap, inl, inr}
+use Rattle.std.proofs.Common.{◌≡◌, ℕ, ◌+◌, ◌<◌, ◌≤◌, List, [], ◌∷◌, length, Contains, Some, None, All, arith, refl, sym, subst, ◌∙◌, ap, inl, inr}
 use Rattle.std.proofs.lemmas.Bool.{cases_lt}
 use Rattle.std.proofs.lemmas.Option.{same_Some}
 use Rattle.std.proofs.lemmas.List.Elements.{All-contains}
@@ -7,7 +7,6 @@ use Rattle.freq_range.proofs.Members.{Contains-head, Contains-nothing}
 use Rattle.freq_range.specs.First.{IsFirst}
 use Rattle.freq_range.specs.Valid.{IsValidWmm}
 use Rattle.freq_range.specs.declared.rule.Rule.{Rule}
-use Rattle.freq_range.specs.declared.wmm.Wmm.{Wmm}
 use Rattle.rule_tables.proofs.Dropped.{DropsRepeats-keeps}
 use Rattle.rule_tables.specs.Code.{IsCode}
 use Rattle.rule_tables.specs.FileFormat.{DropsRepeats}
@@ -17,8 +16,8 @@ use Rattle.db_text.specs.declared.countries.Country.{Country as Kept}
 use Rattle.db_text.specs.declared.fault.TextKind.{TextKind}
 use Rattle.db_text.specs.declared.fault.TextKind.TheVariants.{NoRules, WmmShort}
 use Rattle.db_text.specs.declared.wmm_rules.WmmBlock.{WmmBlock}
-use Rattle.db_text.specs.Forms.{Form, Names, form_at, rules_of, wmm_of}
-use Rattle.db_text.specs.Forms.Form.{Country, Empty, ItemLine, RuleLine, WmmHeader}
+use Rattle.db_text.specs.Forms.{Form, form_at, rules_of}
+use Rattle.db_text.specs.Forms.Form.{Country}
 use Rattle.db_text.specs.Spelling.{AreCodes}
 use Rattle.db_text.specs.State.{AreAllBlocks, AreAllCountries, AreSound, IsBlockOf, IsFirstShortOf, IsHeaderAt, IsKeptCountry, IsLeastLine, IsWmmHeaderAt}
 use Rattle.db_text.specs.TextOf.{IsShortAt}

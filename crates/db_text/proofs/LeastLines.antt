@@ -1,5 +1,5 @@
 -- The least line of some elements of a list.
-use Rattle.std.proofs.Common.{◌≡◌, ℕ, zero, suc, ◌+◌, ◌<◌, ◌≤◌, ◌⊎◌, List, [], ◌∷◌, ◌++◌, length, take, get_or, min, Contains, Option, Some, None, MatchOption, All, arith, refl, sym, subst, ◌∙◌, ap, inl, inr}
+use Rattle.std.proofs.Common.{◌≡◌, ℕ, zero, suc, ◌+◌, ◌<◌, ◌≤◌, ◌⊎◌, List, [], ◌∷◌, ◌++◌, length, take, get_or, min, Contains, Option, Some, None, MatchOption, All, arith, sym, subst, ◌∙◌, ap, inl, inr}
 use Rattle.std.specs.Option.{option_map_or}
 use Rattle.std.proofs.Math.Nat.{min-eq_left, min-eq_right}
 use Rattle.std.proofs.lemmas.Bool.{cases_lt}
@@ -72,13 +72,13 @@ pub least_skips : {X : Type 0} (Bad Good : X → Type 0) (line : X → ℕ) (xs 
     → IsLeast Bad Good line (take i xs) o → IsLeast Bad Good line (take (i + 1) xs) o
 least_skips Bad Good line xs i y o in_range at good lacks is =
     subst (λ l. IsLeast Bad Good line l o) (sym (take_more xs i y in_range ∙ ap (λ z. take i xs ++ z ∷ []) (sym at)))
-        (least_without Bad Good line (take i xs) y o good lacks is)
+    (least_without Bad Good line (take i xs) y o good lacks is)
 
 pub least_takes : {X : Type 0} (Bad Good : X → Type 0) (line : X → ℕ) → ((x : X) → Bad x → Good x → ⊥) → (xs : List X) (i : ℕ) (y : X) (o : Option ℕ) (n : ℕ) → i < length xs
     → y ≡ get_or xs i y → Bad y → n ≡ option_map_or (λ other. min other (line y)) o (line y) → IsLeast Bad Good line (take i xs) o → IsLeastLine Bad line (take (i + 1) xs) n
 least_takes Bad Good line clash xs i y o n in_range at bad is before =
     subst (λ l. IsLeastLine Bad line l n) (sym (take_more xs i y in_range ∙ ap (λ z. take i xs ++ z ∷ []) (sym at)))
-        (least_with Bad Good line clash (take i xs) y o n bad is before)
+    (least_with Bad Good line clash (take i xs) y o n bad is before)
 
 pub least_end : {X : Type 0} (Bad Good : X → Type 0) (line : X → ℕ) (xs : List X) (i : ℕ) (o : Option ℕ) → length xs ≤ i → IsLeast Bad Good line (take i xs) o
     → MatchOption o (All Good xs) (IsLeastLine Bad line xs)

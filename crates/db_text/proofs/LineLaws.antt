@@ -1,6 +1,5 @@
 -- Which kinds may apply to a line, by how it opens.
-use Rattle.std.proofs.Common.{◌≡◌, ◌≢◌, ℕ, ◌<◌, ◌⊎◌, List, [], arith, ap, subst, inl, inr}
-use Rattle.rule_tables.specs.declared.code.Alpha2.{Alpha2}
+use Rattle.std.proofs.Common.{◌≡◌, ◌≢◌, ℕ, ◌<◌, ◌⊎◌, List, arith, ap, subst, inl, inr}
 use Rattle.db_text.specs.declared.fault.TextKind.{TextKind}
 use Rattle.db_text.specs.declared.fault.TextKind.TheVariants.{LineTooLong, NotUtf8, BadLine, NoBlock, BadCountry, BadRegion, RegionDiffers, BadBand, BadPower, BadFlag, FlagNotInVersion, NoWmm, BadWmm, WmmTwice, TooManyRules, WmmShort, NoRules}
 use Rattle.db_text.specs.declared.form.Item.{Item}

@@ -1,5 +1,5 @@
 -- The WMM rules by their names: what a change at one name leaves at the others.
-use Rattle.std.proofs.Common.{◌≡◌, ◌≢◌, ℕ, true, false, List, Option, Some, None, refl, sym, subst, ◌∙◌, ap}
+use Rattle.std.proofs.Common.{◌≡◌, ◌≢◌, ℕ, true, false, List, Option, Some, None, refl, sym, subst, ◌∙◌}
 use Rattle.std.proofs.lemmas.Bool.{false_from_ne_true}
 use Rattle.std.proofs.lemmas.Cmp.{eq_by_cmp_equiv, nat_list_cmp_total}
 use Rattle.std.proofs.lemmas.Map.Text.{is_eq-slice_cmp}
@@ -9,7 +9,6 @@ use Rattle.std.specs.Cmp.Lexicographic.{slice_cmp}
 use Rattle.std.specs.Map.{KeepsOthers, lookup}
 use Rattle.std.specs.Option.{is_some}
 use Rattle.std.specs.Ordering.{eq_by_cmp, is_eq, nat_cmp}
-use Rattle.std.specs.Str.{bytes_eq}
 use Rattle.std.specs.declared.alloc.Global.{Global}
 use Rattle.std.specs.declared.vec.Vec.{Vec}
 use Rattle.freq_range.specs.declared.wmm.WmmEntry.{WmmEntry}
@@ -30,8 +29,8 @@ pub at_other : (name other : List ℕ) (old new : List (Vec ℕ Global × WmmBlo
 unfolding KeepsOthers
 at_other name other old new differ keeps =
     keeps (is_at (λ (k : Vec ℕ Global). slice_cmp nat_cmp other k.items))
-        (λ x y. (eq_by_cmp_equiv nat_list_cmp_total).congr other x.items y.items)
-        (λ k. apart name other k.items differ)
+    (λ x y. (eq_by_cmp_equiv nat_list_cmp_total).congr other x.items y.items)
+    (λ k. apart name other k.items differ)
 
 pub found : {X : Type 0} (o : Option X) → is_some o ≡ true → (x : X) × (o ≡ Some x)
 found (Some x) is = (x, refl)

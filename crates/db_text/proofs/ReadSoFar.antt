@@ -1,5 +1,5 @@
 -- How far the lines of a text were read, and what a line that isn't taken means for the text.
-use Rattle.std.proofs.Common.{◌≡◌, ℕ, suc, ◌+◌, ◌<◌, ◌≤◌, List, [], ◌∷◌, ◌++◌, length, take, get_or, reverse, Option, Some, None, IfSome, MatchOption, Bor, arith, refl, sym, subst, ◌∙◌, ap, inl}
+use Rattle.std.proofs.Common.{◌≡◌, ℕ, ◌+◌, ◌<◌, ◌≤◌, List, [], ◌∷◌, ◌++◌, length, reverse, Option, Some, None, IfSome, MatchOption, Bor, arith, refl, sym, ◌∙◌, ap, inl}
 use Rattle.std.specs.Option.{option_copied}
 use Rattle.std.proofs.lemmas.List.{append-nil, append_assoc, get_or_at, length-append, length-reverse, length_push, reverse-append, take-append-le, take_all}
 use Rattle.db_text.specs.declared.fault.LineStop.{LineStop}
@@ -8,11 +8,10 @@ use Rattle.db_text.specs.declared.fault.TextKind.{TextKind}
 use Rattle.db_text.specs.declared.parser.Parser.{Parser}
 use Rattle.db_text.specs.Faults.{AreAccepted, IsLineFault}
 use Rattle.db_text.specs.Forms.{Form}
-use Rattle.db_text.specs.Forms.Form.{Country, Empty, ItemLine, RuleLine, WmmHeader}
 use Rattle.db_text.specs.Lines.{lines_of}
 use Rattle.db_text.specs.State.{AreRead, AreSound, IsLineStop, Stands, TakesLine, fault_at}
 use Rattle.db_text.proofs.Unique.{length_accepted, sound_from_accepted}
-use Rattle.db_text.specs.TextOf.{IsFirstFault, IsParseFault, IsTextFault}
+use Rattle.db_text.specs.TextOf.{IsParseFault, IsTextFault}
 
 -- the lines of what is left of a text
 abbrev pub lines_left : Option (List ℕ) → List (List ℕ)
@@ -78,13 +77,16 @@ pub not_taken : (text bytes line : List ℕ) (rest : List (List ℕ)) (number : 
 not_taken text bytes line rest number parser kind so_far cut fault =
     let lines : lines_of text ≡ so_far.seen ++ line ∷ rest = so_far.lines ∙ ap (λ ls. so_far.seen ++ ls) cut in
     let len = length-append so_far.seen (line ∷ rest) in
-    let count = so_far.count in
-    (number, refl, inl (record {
-      in_range = rw lines (omega (arith, len, count));
-      above = so_far.forms;
-      accepted = rw (lines, take-append-le number so_far.seen (line ∷ rest) (omega (arith, count)), take_all number so_far.seen (omega (arith, count))) so_far.accepted;
-      fault = rw (lines, get_or_at so_far.seen line rest [] number count) fault;
-    }))
+    let count = so_far.count in (
+      number,
+      refl,
+      inl (record {
+        in_range = rw lines (omega (arith, len, count));
+        above = so_far.forms;
+        accepted = rw (lines, take-append-le number so_far.seen (line ∷ rest) (omega (arith, count)), take_all number so_far.seen (omega (arith, count))) so_far.accepted;
+        fault = rw (lines, get_or_at so_far.seen line rest [] number count) fault;
+      }),
+    )
 
 pub stopped : (text bytes line : List ℕ) (rest : List (List ℕ)) (number : ℕ) (parser : Parser) (stop : LineStop) (so_far : ReadSoFar text (Some bytes) number parser)
     → lines_of bytes ≡ line ∷ rest → IsLineStop so_far.forms line stop → IsParseFault text (fault_at stop (number + 1))

@@ -1,5 +1,5 @@
 -- The domains of a text without a fault are those of a database.
-use Rattle.std.proofs.Common.{◌≡◌, ℕ, ◌<◌, List, [], length, get_or, All, arith, ap}
+use Rattle.std.proofs.Common.{ℕ, ◌<◌, List, length, get_or, All, arith, ap}
 use Rattle.std.proofs.lemmas.List.Elements.{Contains-get_or}
 use Rattle.rule_tables.proofs.Dropped.{DropsRepeats-only}
 use Rattle.rule_tables.specs.Code.{key}

@@ -1,11 +1,9 @@
 -- What is kept of countries says what the lines say, the line of a rule included.
-use Rattle.std.proofs.Common.{◌≡◌, ◌≢◌, ℕ, ◌+◌, ◌<◌, ◌≤◌, ◌⊎◌, Bool, true, false, List, [], ◌∷◌, ◌++◌, length, take, get_or, Contains, Option, Some, None, IfSome, All, arith, refl, sym, subst, ◌∙◌, ap, inl, inr, if◌then◌else◌}
+use Rattle.std.proofs.Common.{◌≡◌, ◌≢◌, ℕ, ◌+◌, ◌<◌, ◌≤◌, true, List, [], ◌∷◌, ◌++◌, length, take, get_or, Contains, Option, Some, None, IfSome, All, arith, refl, sym, subst, ap, inl, inr, if◌then◌else◌}
 use Rattle.std.proofs.lemmas.List.{length-append, take_all, take_more}
-use Rattle.std.proofs.lemmas.List.Elements.{Contains-get_or, All-contains, Contains-append_right}
-use Rattle.std.specs.BTreeMap.{get}
+use Rattle.std.proofs.lemmas.List.Elements.{Contains-get_or, Contains-append_right}
 use Rattle.std.specs.List.{list_any}
-use Rattle.std.specs.Ordering.{nat_cmp}
-use Rattle.freq_range.proofs.Members.{Contains-head, Contains-later}
+use Rattle.freq_range.proofs.Members.{Contains-head}
 use Rattle.freq_range.specs.declared.rule.Rule.{Rule}
 use Rattle.rule_tables.proofs.Dropped.{DropsRepeats-keeps, DropsRepeats-only, DropsRepeats-unique}
 use Rattle.rule_tables.specs.Code.{IsCode, key}
@@ -19,10 +17,10 @@ use Rattle.db_text.specs.declared.fault.TextKind.TheVariants.{TooManyRules}
 use Rattle.db_text.specs.Faults.{HasTooMany}
 use Rattle.db_text.specs.Forms.{Form, Names, block_of, is_of_code, rules_of, same_code, with_named}
 use Rattle.db_text.specs.Forms.Block.{OfCountries}
-use Rattle.db_text.specs.Forms.Form.{Country, RuleLine}
+use Rattle.db_text.specs.Forms.Form.{RuleLine}
 use Rattle.db_text.specs.State.{AddsRule, AddsTo, AreCountries, AreRuled, Countries, IsAddAllStop, IsAddToStop, IsAdded, IsCountryOf, IsKeptCountry, country_of, forms_at}
 use Rattle.db_text.proofs.CountryLaws.{each_after, keys_after, named_country, quiet_country}
-use Rattle.db_text.proofs.FormLaws.{Names-cases, Names-later, among_true, block_named_by, cases_among, first_header-more, same_code-apart, same_code-itself}
+use Rattle.db_text.proofs.FormLaws.{Names-cases, Names-later, among_true, block_named_by, cases_among, first_header-more, same_code-apart}
 
 -- the rules of a code whose block is is_open, with one more line
 open_rules : (code : Alpha2) (rule : Rule) (name : Option (List ℕ)) (above : List Form) → is_of_code code (block_of above) ≡ true
@@ -53,10 +51,14 @@ ruled_country code rule full name above old new is_full is_open is (inr added) =
   named = Names-later (RuleLine rule name) above code old.region is.named;
   one_region = λ r named. is.one_region r (rule_names code rule name above r named);
   first_header = (is.first_header.0, is.first_header.1, first_header-more (RuleLine rule name) above code is.first_header.0 is.first_header.2);
-  rules_are = subst (λ rules. DropsRepeats rules (old.rules ++ full ∷ [])) (sym (open_rules code rule name above is_open))
-      (old.rules, is.rules_are, inr (
-        λ has. added.0 (subst (Contains old.rules) (sym is_full) (DropsRepeats-keeps (rules_of code above) old.rules (with_named above rule name) is.rules_are has)),
-        ap (λ r. old.rules ++ r ∷ []) is_full));
+  rules_are = subst (λ rules. DropsRepeats rules (old.rules ++ full ∷ [])) (sym (open_rules code rule name above is_open)) (
+    old.rules,
+    is.rules_are,
+    inr (
+      λ has. added.0 (subst (Contains old.rules) (sym is_full) (DropsRepeats-keeps (rules_of code above) old.rules (with_named above rule name) is.rules_are has)),
+      ap (λ r. old.rules ++ r ∷ []) is_full,
+    ),
+  );
   few = let len = length-append old.rules (full ∷ []) in omega (arith, len, added.1);
 })
 
@@ -65,8 +67,8 @@ has_rule : (code : Alpha2) (rule full : Rule) (name : Option (List ℕ)) (above 
     → is_of_code code (block_of above) ≡ true → IsKeptCountry (RuleLine rule name ∷ above) code kept → Contains kept.rules full
 has_rule code rule full name above kept is_full is_open is =
     DropsRepeats-keeps (rules_of code (RuleLine rule name ∷ above)) kept.rules full is.rules_are
-        (subst (λ rules. Contains rules full) (sym (open_rules code rule name above is_open))
-            (subst (λ r. Contains (r ∷ rules_of code above) full) is_full (Contains-head full (rules_of code above))))
+    (subst (λ rules. Contains rules full) (sym (open_rules code rule name above is_open))
+    (subst (λ r. Contains (r ∷ rules_of code above) full) is_full (Contains-head full (rules_of code above))))
 
 same_country : (code : Alpha2) (rule full : Rule) (name : Option (List ℕ)) (above : List Form) (old new : Kept) → full ≡ with_named above rule name
     → is_of_code code (block_of above) ≡ true → IsKeptCountry (RuleLine rule name ∷ above) code old → AddsRule full old new → IsKeptCountry (RuleLine rule name ∷ above) code new
@@ -92,8 +94,8 @@ added_here code rule full name above done cs old new is_full block has is added 
     elim (cases_among code done) [
       | inl among ↦
           let country = named_country (RuleLine rule name ∷ above) code old named.0
-              (subst (λ t. IsCountryOf (if t then RuleLine rule name ∷ above else above) code old) among.1 is)
-              (Names-later (RuleLine rule name) above code named.0 named.1) in
+          (subst (λ t. IsCountryOf (if t then RuleLine rule name ∷ above else above) code old) among.1 is)
+          (Names-later (RuleLine rule name) above code named.0 named.1) in
           let change = subst (λ o. IsAdded full o new) country.1 added in
           subst (IsCountryOf (RuleLine rule name ∷ above) code) (sym change.1) (same_country code rule full name above country.0 change.0 is_full is_open country.2 change.2)
       | inr none ↦
@@ -117,7 +119,7 @@ ruled_more rule full name above done cs code old new is_full block has is_code a
       (λ other o apart is. subst (λ t. IsCountryOf (if t then RuleLine rule name ∷ above else above) other o) (sym (any_more other code done (λ e. apart (sym e)))) is)
       are.each
       (subst (λ t. IsCountryOf (if t then RuleLine rule name ∷ above else above) code (country_of new code)) (sym (any_last code done))
-          (added_here code rule full name above done cs (country_of old code) (country_of new code) is_full block has (are.each code is_code) adds.here));
+      (added_here code rule full name above done cs (country_of old code) (country_of new code) is_full block has (are.each code is_code) adds.here));
   keys = keys_after code old new (λ q kept. IsCode kept.alpha2 × (q ≡ key kept.alpha2)) adds.others are.keys
       (added_key (key code) full (country_of old code) (country_of new code) adds.here (are.keys (key code)));
 }
@@ -151,10 +153,14 @@ makes_too_many rule full name above done cs code countries kept is_full block ha
           let country = subst (λ t. IsKeptCountry (if t then RuleLine rule name ∷ above else above) code kept) none.1 here in
           let len = length-append kept.rules (full ∷ []) in (
             kept.rules ++ full ∷ [],
-            subst (λ rules. DropsRepeats rules (kept.rules ++ full ∷ [])) (sym (open_rules code rule name above is_open))
-                (kept.rules, country.rules_are, inr (
-                  λ earlier. lacks (subst (Contains kept.rules) (sym is_full) (DropsRepeats-keeps (rules_of code above) kept.rules (with_named above rule name) country.rules_are earlier)),
-                  ap (λ r. kept.rules ++ r ∷ []) is_full)),
+            subst (λ rules. DropsRepeats rules (kept.rules ++ full ∷ [])) (sym (open_rules code rule name above is_open)) (
+              kept.rules,
+              country.rules_are,
+              inr (
+                λ earlier. lacks (subst (Contains kept.rules) (sym is_full) (DropsRepeats-keeps (rules_of code above) kept.rules (with_named above rule name) country.rules_are earlier)),
+                ap (λ r. kept.rules ++ r ∷ []) is_full,
+              ),
+            ),
             omega (arith, len, many),
           )
     ]
@@ -175,7 +181,7 @@ pub ruled_step : (rule full : Rule) (name : Option (List ℕ)) (above : List For
 ruled_step rule full name above cs i old new in_range is_full block codes are adds =
     let code = get_or cs i (record { a = 0; b = 0 }) in
     subst (λ xs. AreRuled above rule name xs new) (sym (take_more cs i (record { a = 0; b = 0 }) in_range))
-        (ruled_more rule full name above (take i cs) cs code old new is_full block (Contains-get_or cs i (record { a = 0; b = 0 }) in_range) (codes i (record { a = 0; b = 0 }) in_range) are adds)
+    (ruled_more rule full name above (take i cs) cs code old new is_full block (Contains-get_or cs i (record { a = 0; b = 0 }) in_range) (codes i (record { a = 0; b = 0 }) in_range) are adds)
 
 pub ruled_all : (rule : Rule) (name : Option (List ℕ)) (above : List Form) (cs : List Alpha2) (i : ℕ) (countries : Countries) → length cs ≤ i → block_of above ≡ OfCountries cs
     → AreRuled above rule name (take i cs) countries → AreCountries (RuleLine rule name ∷ above) countries
@@ -186,8 +192,10 @@ pub add_all_stop : (rule full : Rule) (name : Option (List ℕ)) (above : List F
     → full ≡ with_named above rule name → block_of above ≡ OfCountries cs → All IsCode cs → AreRuled above rule name (take i cs) old
     → IsAddToStop (get_or cs i (record { a = 0; b = 0 })) full old stop → IsAddAllStop (RuleLine rule name ∷ above) cs stop
 add_all_stop rule full name above cs i old (Kind TooManyRules) in_range is_full block codes are (kept, is, lacks) =
-    let code = get_or cs i (record { a = 0; b = 0 }) in
-    (code, Contains-get_or cs i (record { a = 0; b = 0 }) in_range,
-        makes_too_many rule full name above (take i cs) cs code old kept is_full block (Contains-get_or cs i (record { a = 0; b = 0 }) in_range) (codes i (record { a = 0; b = 0 }) in_range) are is lacks.0 lacks.1)
+    let code = get_or cs i (record { a = 0; b = 0 }) in (
+      code,
+      Contains-get_or cs i (record { a = 0; b = 0 }) in_range,
+      makes_too_many rule full name above (take i cs) cs code old kept is_full block (Contains-get_or cs i (record { a = 0; b = 0 }) in_range) (codes i (record { a = 0; b = 0 }) in_range) are is lacks.0 lacks.1,
+    )
 add_all_stop rule full name above cs i old OutOfMemory in_range is_full block codes are stop = tt
 add_all_stop rule full name above cs i old (Kind kind) in_range is_full block codes are stop = absurd stop.2

@@ -1,5 +1,5 @@
 -- A rule or an item is taken, or has the first kind of fault that applies.
-use Rattle.std.proofs.Common.{◌≡◌, ◌≢◌, ℕ, ◌+◌, ◌<◌, List, [], ◌∷◌, ◌++◌, length, Contains, Option, Some, None, All, arith, refl, sym, subst, ◌∙◌, ap, inl, inr}
+use Rattle.std.proofs.Common.{◌≡◌, ℕ, ◌<◌, List, [], ◌∷◌, ◌++◌, Contains, Option, Some, None, All, arith, refl, sym, subst, ◌∙◌, ap, inl, inr}
 use Rattle.std.proofs.lemmas.List.{append_assoc}
 use Rattle.std.proofs.lemmas.List.Elements.{All-contains}
 use Rattle.freq_range.proofs.Members.{Contains-cases, Contains-head, Contains-nothing}
@@ -15,7 +15,7 @@ use Rattle.db_text.specs.declared.fault.TextKind.TheVariants.{BadBand, BadFlag, 
 use Rattle.db_text.specs.declared.form.Item.{Item}
 use Rattle.db_text.specs.declared.form.Opening.TheVariants.{Rule as OfRule, Item as OfItem}
 use Rattle.db_text.specs.Faults.{HasTooMany, IsInCountries, IsInWmm, IsWrong, place_of_kind}
-use Rattle.db_text.specs.Forms.{Block, Form, block_of, wmm_of}
+use Rattle.db_text.specs.Forms.{Form, block_of}
 use Rattle.db_text.specs.Forms.Block.{OfCountries, OfName}
 use Rattle.db_text.specs.Forms.Form.{RuleLine}
 use Rattle.db_text.specs.Reading.{IsRuleKind}
@@ -56,11 +56,11 @@ pub item_good : (above : List Form) (line name : List ℕ) (item : Item) (e : Wm
 item_good above line name item e old new is block are adds =
     let opens = IsItemLine-opens line item e is in
     good above line (item_first above line 18 item opens
-        (λ less wrong. item_outside above line item opens wrong (name, block))
-        (λ less wrong. elim (item_wrong above line item opens wrong) [
-          | inl none ↦ none e is
-          | inr there ↦ item_not_there name item e above old new block are adds there
-        ]))
+    (λ less wrong. item_outside above line item opens wrong (name, block))
+    (λ less wrong. elim (item_wrong above line item opens wrong) [
+      | inl none ↦ none e is
+      | inr there ↦ item_not_there name item e above old new block are adds there
+    ]))
 
 -- ---- rules
 
@@ -73,8 +73,14 @@ rule_nothing above line opens outside = record {
 
 -- what is spelled begins with a band, and then with a power
 pub spelled_band : (line : List ℕ) (t : RuleText) (rule : Rule) → IsSpelledRule line t rule → BeginsWithBand line (power_part t.gain t.power ++ words_text t.words)
-spelled_band line t rule is = (t.band, rule.start_khz, rule.end_khz, rule.max_bw_khz, is.band,
-    is.spelled ∙ append_assoc (band_text t.band) (power_part t.gain t.power) (words_text t.words))
+spelled_band line t rule is = (
+  t.band,
+  rule.start_khz,
+  rule.end_khz,
+  rule.max_bw_khz,
+  is.band,
+  is.spelled ∙ append_assoc (band_text t.band) (power_part t.gain t.power) (words_text t.words),
+)
 
 pub spelled_power : (line : List ℕ) (t : RuleText) (rule : Rule) → IsSpelledRule line t rule → BeginsWithPower (power_part t.gain t.power ++ words_text t.words) (words_text t.words)
 spelled_power line t rule is = (t.gain, t.power, rule.eirp_mbm, is.power, refl)
@@ -113,13 +119,13 @@ pub rule_allows : (above : List Form) (line : List ℕ) (cs : List Alpha2) (rule
 rule_allows above line cs rule name n block is f g =
     let opens = IsSpelledRule-opens line is.text rule is.is in
     rule_first above line n opens (λ less wrong. rule_outside above line opens wrong (cs, block))
-        (λ less wrong. wrong.1 (power_part is.text.gain is.text.power ++ words_text is.text.words) (spelled_band line is.text rule is.is))
-        (λ less wrong. wrong.1 (power_part is.text.gain is.text.power ++ words_text is.text.words) (words_text is.text.words) (spelled_band line is.text rule is.is) (spelled_power line is.text rule is.is))
-        (λ less wrong. wrong.1 is.text rule is.is)
-        (λ less wrong.
-            let same = IsSpelledRule-unique line is.text wrong.0 rule wrong.1 is.is wrong.2 in
-            wrong.3 (subst (λ ws. All IsKeptWord ws) same.0 is.kept))
-        f g
+    (λ less wrong. wrong.1 (power_part is.text.gain is.text.power ++ words_text is.text.words) (spelled_band line is.text rule is.is))
+    (λ less wrong. wrong.1 (power_part is.text.gain is.text.power ++ words_text is.text.words) (words_text is.text.words) (spelled_band line is.text rule is.is) (spelled_power line is.text rule is.is))
+    (λ less wrong. wrong.1 is.text rule is.is)
+    (λ less wrong.
+    let same = IsSpelledRule-unique line is.text wrong.0 rule wrong.1 is.is wrong.2 in
+    wrong.3 (subst (λ ws. All IsKeptWord ws) same.0 is.kept))
+    f g
 
 one_name : (name : Option (List ℕ)) (other : List ℕ) → Contains (list_of name) other → name ≡ Some other
 one_name None other has = absurd (Contains-nothing other has)
@@ -170,11 +176,11 @@ pub rule_good : (above : List Form) (line : List ℕ) (cs : List Alpha2) (rule :
 rule_good above line cs rule name blocks wmm countries sound block is are names countries_are = good above line (rule_allows above line cs rule name 18 block is
     (λ less wrong. not_unnamed above line rule name blocks wmm is are names wrong)
     (λ less wrong.
-        let other = wrong.2 in
-        let same = IsSpelledRule-unique line other.text is.text wrong.0 rule other.is is.is in
-        let one = same_named wrong.1 name (sym other.named ∙ ap names_in same.0 ∙ is.named) in
-        let codes = block_codes above wrong.3 sound wrong.4 in
-        let named = block_named_by above wrong.3 wrong.5 wrong.4 wrong.6 in
-        not_too_many (RuleLine rule name ∷ above) countries wrong.5 named.0 countries_are (All-contains IsCode wrong.3 wrong.5 codes.each wrong.6)
-            (Names-later (RuleLine rule name) above wrong.5 named.0 named.1)
-            (subst (λ r. HasTooMany (RuleLine r name ∷ above) wrong.5) same.1 (subst (λ n. HasTooMany (RuleLine wrong.0 n ∷ above) wrong.5) one wrong.7))))
+    let other = wrong.2 in
+    let same = IsSpelledRule-unique line other.text is.text wrong.0 rule other.is is.is in
+    let one = same_named wrong.1 name (sym other.named ∙ ap names_in same.0 ∙ is.named) in
+    let codes = block_codes above wrong.3 sound wrong.4 in
+    let named = block_named_by above wrong.3 wrong.5 wrong.4 wrong.6 in
+    not_too_many (RuleLine rule name ∷ above) countries wrong.5 named.0 countries_are (All-contains IsCode wrong.3 wrong.5 codes.each wrong.6)
+    (Names-later (RuleLine rule name) above wrong.5 named.0 named.1)
+    (subst (λ r. HasTooMany (RuleLine r name ∷ above) wrong.5) same.1 (subst (λ n. HasTooMany (RuleLine wrong.0 n ∷ above) wrong.5) one wrong.7))))

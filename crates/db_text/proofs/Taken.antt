@@ -1,5 +1,5 @@
 -- What the parser holds behind a line that it takes.
-use Rattle.std.proofs.Common.{◌≡◌, ℕ, ◌+◌, ◌⊎◌, List, [], ◌∷◌, ◌++◌, length, Option, Some, None, All, refl, sym, subst, ◌∙◌, ap, inl, inr}
+use Rattle.std.proofs.Common.{◌≡◌, ℕ, ◌+◌, ◌⊎◌, List, ◌∷◌, length, Option, refl, sym, subst, ◌∙◌, ap, inl, inr}
 use Rattle.std.specs.declared.alloc.Global.{Global}
 use Rattle.std.specs.declared.vec.Vec.{Vec}
 use Rattle.freq_range.specs.declared.rule.Rule.{Rule}
@@ -12,9 +12,9 @@ use Rattle.db_text.specs.declared.parser.Open.{Open}
 use Rattle.db_text.specs.declared.parser.Open.TheVariants.{Nothing, Countries as OpenCountries, Wmm as OpenWmm}
 use Rattle.db_text.specs.declared.parser.Parser.{Parser}
 use Rattle.db_text.specs.Faults.{IsInCountries, IsInWmm}
-use Rattle.db_text.specs.Forms.{Form, block_of, named_wmm, with_named}
-use Rattle.db_text.specs.Forms.Block.{NoBlock, OfCountries, OfName}
-use Rattle.db_text.specs.Forms.Form.{Country, Empty, ItemLine, RuleLine, WmmHeader}
+use Rattle.db_text.specs.Forms.{Form, block_of, with_named}
+use Rattle.db_text.specs.Forms.Block.{OfCountries, OfName}
+use Rattle.db_text.specs.Forms.Form.{Country, ItemLine, RuleLine, WmmHeader}
 use Rattle.db_text.specs.Spelling.{IsHeader, IsItemLine, IsRuleLine, IsWmmHeader}
 use Rattle.db_text.specs.State.{AddsItemTo, AreCountries, AreSound, Blocks, Countries, IsOpen, NamesWmm, OpensWmm, Stands, TakesBare}
 use Rattle.db_text.proofs.CountryLaws.{quiet_countries}

@@ -1,9 +1,9 @@
 -- The rules of accepted lines: at most 128 of a code, and each valid where its WMM rule is.
-use Rattle.std.proofs.Common.{◌≡◌, ℕ, zero, suc, ◌+◌, ◌*◌, ◌/◌, ◌^◌, ◌<◌, ◌≤◌, ◌⊎◌, Bool, true, false, List, [], ◌∷◌, length, Contains, Option, Some, None, IfSome, arith, add-one, refl, sym, subst, ◌∙◌, ap, inl, inr, if◌then◌else◌}
+use Rattle.std.proofs.Common.{◌≡◌, ℕ, ◌+◌, ◌*◌, ◌/◌, ◌^◌, ◌<◌, ◌≤◌, ◌⊎◌, Bool, true, false, List, [], ◌∷◌, length, Contains, Option, Some, None, IfSome, arith, refl, sym, subst, ◌∙◌, ap, inl, inr, if◌then◌else◌}
 use Rattle.std.proofs.lemmas.Bool.{cases_Bool, cases_lt}
 use Rattle.std.proofs.lemmas.Option.{none-some}
 use Rattle.freq_range.proofs.Members.{Contains-cases, Contains-nothing}
-use Rattle.freq_range.proofs.Powers.{digits_most, left_least, left_most, mantissa_least, mantissa_most, power-more, power-none, product_least, product_most, ten_more, whole_small}
+use Rattle.freq_range.proofs.Powers.{digits_most, left_least, left_most, mantissa_least, mantissa_most, ten_more, whole_small}
 use Rattle.freq_range.specs.Power.{IsDecimal, IsMbm, power}
 use Rattle.freq_range.specs.Valid.{IsValidRule, IsValidWmm}
 use Rattle.freq_range.specs.declared.rule.Rule.{Rule}

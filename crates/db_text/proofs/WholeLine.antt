@@ -1,5 +1,5 @@
 -- A line as it stands in the text is taken as what counts of it is.
-use Rattle.std.proofs.Common.{◌≡◌, ℕ, ◌<◌, ◌≤◌, List, arith, refl, subst}
+use Rattle.std.proofs.Common.{◌≡◌, ℕ, ◌<◌, List, arith, refl, subst}
 use Rattle.db_text.specs.declared.fault.LineStop.{LineStop}
 use Rattle.db_text.specs.declared.fault.LineStop.TheVariants.{Kind, OutOfMemory}
 use Rattle.db_text.specs.declared.fault.TextKind.{TextKind}
@@ -9,7 +9,7 @@ use Rattle.db_text.specs.Faults.{Applies, IsLineFault, IsWrong, place_of_kind}
 use Rattle.db_text.specs.Forms.{Form}
 use Rattle.db_text.specs.Lines.{IsReadableLine, bare}
 use Rattle.db_text.specs.Reading.{IsUnreadable}
-use Rattle.db_text.specs.State.{IsBareFault, IsBareStop, IsLineStop, TakesBare, TakesLine}
+use Rattle.db_text.specs.State.{IsBareStop, IsLineStop, TakesBare, TakesLine}
 
 -- a kind that applies to a line that is readable is wrong with what counts of it
 applies_bare : (above : List Form) (line : List ℕ) (kind : TextKind) → IsReadableLine line → Applies above line kind → IsWrong above (bare line) kind

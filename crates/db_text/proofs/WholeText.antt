@@ -1,27 +1,20 @@
 -- What the parser holds behind the last line gives the text's database, or its fault.
-use Rattle.std.proofs.Common.{◌≡◌, ◌≢◌, ℕ, ◌+◌, ◌<◌, ◌⊎◌, List, [], ◌∷◌, length, reverse, Contains, Some, None, MatchOption, All, arith, refl, sym, subst, ◌∙◌, ap, inl, inr}
+use Rattle.std.proofs.Common.{◌≡◌, ℕ, ◌<◌, List, length, reverse, Contains, All, subst, inr}
 use Rattle.std.proofs.lemmas.List.Elements.{All-contains, All-weaker}
 use Rattle.std.specs.BTreeMap.{IsOrdered, values}
 use Rattle.std.specs.Cmp.Lexicographic.{slice_cmp}
 use Rattle.std.specs.Ordering.{nat_cmp}
 use Rattle.std.specs.declared.alloc.Global.{Global}
 use Rattle.std.specs.declared.vec.Vec.{Vec}
-use Rattle.freq_range.proofs.Members.{Contains-cases, Contains-nothing}
-use Rattle.freq_range.specs.Valid.{IsValidWmm}
 use Rattle.rule_tables.specs.Code.{IsCode}
-use Rattle.rule_tables.specs.declared.code.Alpha2.{Alpha2}
-use Rattle.rule_tables.specs.declared.code.Region.{Region}
 use Rattle.rule_tables.specs.declared.domain.Domain.{Domain}
 use Rattle.db_text.specs.declared.countries.Country.{Country as Kept}
 use Rattle.db_text.specs.declared.fault.TextFault.{TextFault}
 use Rattle.db_text.specs.declared.fault.TextKind.{TextKind}
 use Rattle.db_text.specs.declared.parser.Parser.{Parser}
 use Rattle.db_text.specs.declared.wmm_rules.WmmBlock.{WmmBlock}
-use Rattle.db_text.specs.Faults.{AreAccepted}
-use Rattle.db_text.specs.Forms.{Form, Names}
-use Rattle.db_text.specs.Forms.Form.{Country, Empty, ItemLine, RuleLine, WmmHeader}
+use Rattle.db_text.specs.Forms.{Form}
 use Rattle.db_text.specs.Lines.{lines_of}
-use Rattle.db_text.specs.Spelling.{AreCodes}
 use Rattle.db_text.specs.State.{AreAllBlocks, AreAllCountries, AreDomainsOf, AreRead, AreReady, AreSound, IsFirstShortOf, IsKeptCountry, domain_of}
 use Rattle.db_text.specs.TextOf.{IsDomainOf, IsShortAt, IsTextFault, TextOf}
 use Rattle.db_text.proofs.Ended.{all_blocks, all_countries}

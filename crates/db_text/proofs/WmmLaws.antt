@@ -1,19 +1,18 @@
 -- What is kept of WMM rules says what the lines say, a further line included.
-use Rattle.std.proofs.Common.{◌≡◌, ◌≢◌, ℕ, ◌+◌, ◌<◌, ◌⊎◌, Bool, true, false, List, [], ◌∷◌, length, Option, Some, None, option_map, arith, refl, sym, subst, ◌∙◌, ap, inl, inr, if◌then◌else◌}
+use Rattle.std.proofs.Common.{◌≡◌, ◌≢◌, ℕ, ◌+◌, ◌⊎◌, true, false, List, [], ◌∷◌, length, Option, Some, None, option_map, arith, refl, sym, subst, ◌∙◌, ap, inl, inr}
 use Rattle.std.proofs.lemmas.Bool.{cases_Bool, false_from_ne_true}
 use Rattle.std.proofs.lemmas.Slice.Eq.{bytes_eq-Decides}
 use Rattle.freq_range.specs.First.{IsFirst}
 use Rattle.freq_range.specs.Valid.{IsValidEntry}
-use Rattle.freq_range.specs.declared.rule.Rule.{Rule}
 use Rattle.freq_range.specs.declared.wmm.Wmm.{Wmm}
 use Rattle.freq_range.specs.declared.wmm.WmmEntry.{WmmEntry}
 use Rattle.db_text.specs.declared.form.Item.{Item}
 use Rattle.db_text.specs.declared.wmm_rules.WmmBlock.{WmmBlock}
 use Rattle.db_text.specs.Faults.{HasItem}
-use Rattle.db_text.specs.Forms.{Block, Form, block_of, entry_of, form_at, is_of_name, named_wmm, no_items, same_name, with_entry, wmm_of}
-use Rattle.db_text.specs.Forms.Block.{NoBlock, OfCountries, OfName}
+use Rattle.db_text.specs.Forms.{Block, Form, block_of, entry_of, form_at, is_of_name, named_wmm, same_name, with_entry, wmm_of}
+use Rattle.db_text.specs.Forms.Block.{OfName}
 use Rattle.db_text.specs.Forms.Form.{Country, Empty, ItemLine, RuleLine, WmmHeader}
-use Rattle.db_text.specs.State.{AddsItem, AddsItemTo, AreBlocks, Blocks, IsBlockOf, IsItemAdded, IsWmmHeaderAt, NamesWmm, OpensWmm, block_named}
+use Rattle.db_text.specs.State.{AddsItemTo, AreBlocks, Blocks, IsBlockOf, IsItemAdded, IsWmmHeaderAt, NamesWmm, OpensWmm, block_named}
 use Rattle.db_text.proofs.FormLaws.{form_at_cases, form_at_more, form_at_top, form_at_within}
 
 -- ---- names
@@ -52,6 +51,7 @@ wmm_of-header (form ∷ above) name k at = elim (form_at_cases (WmmHeader name) 
     mapped : {X Y : Type 0} (f : X → Y) (o : Option X) → o ≢ None → option_map f o ≢ None
     mapped f None some = absurd (some refl)
     mapped f (Some x) some = λ none. absurd cc
+
     by_form : (form : Form) → wmm_of name above ≢ None → wmm_of name (form ∷ above) ≢ None
     by_form Empty some = some
     by_form (Country cs region) some = some

@@ -1,5 +1,5 @@
 -- What is wrong with a line: the first kind of a list that applies to it, below the lines above it.
-use Rattle.std.specs.Prelude.{◌≡◌, ◌≢◌, ℕ, ◌<◌, ◌≤◌, ◌⊎◌, List, [], ◌∷◌, length, reverse, All, Contains, Option, Some, None, IsUtf8}
+use Rattle.std.specs.Prelude.{◌≡◌, ◌≢◌, ℕ, ◌<◌, ◌⊎◌, List, [], ◌∷◌, length, All, Contains, Option, Some, None, IsUtf8}
 use Rattle.freq_range.specs.Valid.{IsValidEntry}
 use Rattle.freq_range.specs.declared.rule.Rule.{Rule}
 use Rattle.freq_range.specs.declared.wmm.WmmEntry.{WmmEntry}
@@ -11,11 +11,11 @@ use Rattle.db_text.specs.declared.fault.TextKind.TheVariants.{LineTooLong, NotUt
 use Rattle.db_text.specs.declared.form.Item.{Item}
 use Rattle.db_text.specs.declared.form.Opening.{Opening}
 use Rattle.db_text.specs.declared.form.Opening.TheVariants.{Country as OfCountry, Rule as OfRule, Wmm as OfWmm, Item as OfItem}
-use Rattle.db_text.specs.Forms.{Block, Form, IsForm, Names, block_of, entry_of, rules_of, wmm_of}
+use Rattle.db_text.specs.Forms.{Form, IsForm, Names, block_of, entry_of, rules_of, wmm_of}
 use Rattle.db_text.specs.Forms.Block.{OfCountries, OfName}
-use Rattle.db_text.specs.Forms.Form.{Empty, RuleLine}
+use Rattle.db_text.specs.Forms.Form.{RuleLine}
 use Rattle.db_text.specs.Lines.{bare}
-use Rattle.db_text.specs.Spelling.{AreCodes, AreWords, BeginsWithBand, BeginsWithPower, HasCodes, IsHeader, IsItemLine, IsKeptWord, IsRuleLine, IsSpelledRule, IsWmmHeader, Opens, RuleText, Word, names_in}
+use Rattle.db_text.specs.Spelling.{BeginsWithBand, BeginsWithPower, HasCodes, IsHeader, IsItemLine, IsKeptWord, IsRuleLine, IsSpelledRule, IsWmmHeader, Opens, RuleText, names_in}
 
 -- ---- the line of a rule, by itself
 

@@ -1,5 +1,5 @@
 -- How the lines of a text are spelled. A line here has no blanks and no comment.
-use Rattle.std.specs.Prelude.{◌≡◌, ℕ, ◌+◌, ◌-◌, ◌*◌, ◌^◌, ◌<◌, ◌≤◌, ◌⊎◌, List, [], ◌∷◌, ◌++◌, true, false, length, All, Contains, Option, Some, None, fold, codes}
+use Rattle.std.specs.Prelude.{◌≡◌, ℕ, ◌+◌, ◌-◌, ◌*◌, ◌^◌, ◌<◌, ◌≤◌, ◌⊎◌, List, [], ◌∷◌, ◌++◌, true, false, length, All, Option, Some, None, fold, codes}
 use Rattle.std.specs.List.{flat_map}
 use Rattle.freq_range.specs.Power.{IsMbm}
 use Rattle.freq_range.specs.Valid.{IsValidEntry}

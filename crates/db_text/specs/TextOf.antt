@@ -1,8 +1,6 @@
 -- Which database a text stands for, and which of its lines is at fault where it stands for none.
-use Rattle.std.specs.Prelude.{◌≡◌, ℕ, ◌+◌, ◌<◌, ◌⊎◌, List, [], length, take, reverse, All, Contains, Option, Some, None, slice_index_or}
-use Rattle.freq_range.specs.First.{IsFirst}
+use Rattle.std.specs.Prelude.{◌≡◌, ℕ, ◌+◌, ◌<◌, ◌⊎◌, List, [], length, take, reverse, All, Contains, Some, slice_index_or}
 use Rattle.freq_range.specs.Valid.{IsValidWmm}
-use Rattle.freq_range.specs.declared.rule.Rule.{Rule}
 use Rattle.freq_range.specs.declared.wmm.Wmm.{Wmm}
 use Rattle.rule_tables.specs.Databases.{IsDb, HasCode}
 use Rattle.rule_tables.specs.FileFormat.{DropsRepeats}

@@ -42,10 +42,7 @@ pub struct Parser {
 }
 
 /// The WMM rule that is named, which some line above has to be the header of.
-fn named(
-    blocks: &BTreeMap<Vec<u8>, WmmBlock>,
-    name: Option<&[u8]>,
-) -> Result<Option<Wmm>, LineStop>
+fn named(blocks: &BTreeMap<Vec<u8>, WmmBlock>, name: Option<&[u8]>) -> Result<Option<Wmm>, LineStop>
     ensures { MatchResult result (λ wmm. NamesWmm blocks.now (option_map (λ n. n.now) name.entry) wmm)
         (IsNameStop blocks.now (option_map (λ n. n.now) name.entry)) }
 {

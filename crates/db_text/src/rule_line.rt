@@ -12,7 +12,6 @@ use crate::scanner::begins_with;
 use freq_range::Rule;
 use std::alloc::Global;
 
-
 /// The rule that the squeezed line says, without `wmmrule=`, or what is wrong with it.
 fn bare_rule_of(line: &[u8]) -> Result<Rule, TextKind>
     ensures { MatchResult result (IsBareRule line.now) (IsBareKind line.now) }

@@ -71,7 +71,9 @@ pub fn parse(alloc: Global, text: &[u8]) -> Result<Db, ParseFault>
     ensures stands_for { MatchResult result (λ db. TextOf text.now db) (IsParseFault text.now) }
 {
     let Parser {
-        countries, blocks, ..
+        countries,
+        blocks,
+        ..
     } = read_lines(alloc, text)?;
     let countries = values_of(alloc, countries)?;
     let blocks = values_of(alloc, blocks)?;

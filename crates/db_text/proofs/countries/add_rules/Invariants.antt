@@ -1,9 +1,8 @@
-use Rattle.std.proofs.Common.{◌≡◌, ℕ, ◌+◌, List, ◌∷◌, length, take, All, Option}
+use Rattle.std.proofs.Common.{◌≡◌, ℕ, List, take, All, Option}
 use Rattle.freq_range.specs.declared.rule.Rule.{Rule}
 use Rattle.rule_tables.specs.Code.{IsCode}
 use Rattle.db_text.specs.Forms.{Form, block_of, with_named}
 use Rattle.db_text.specs.Forms.Block.{OfCountries}
-use Rattle.db_text.specs.Forms.Form.{RuleLine}
 use Rattle.db_text.specs.State.{AreCountries, AreRuled}
 use Rattle.db_text.proofs.countries.add_rules.Given as goal
 

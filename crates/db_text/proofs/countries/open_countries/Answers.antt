@@ -1,4 +1,3 @@
-use Rattle.std.proofs.Common.{rules, ◌≡◌, ℕ, ◌+◌, List, ◌∷◌, length, All}
 use Rattle.db_text.proofs.CountryLaws.{no_codes, opened_step, open_all_stop}
 use Rattle.db_text.proofs.Stops.{handed_on}
 use Rattle.db_text.proofs.countries.open_countries.Goals as goal
@@ -9,10 +8,10 @@ loop-code-init c = λ above at codes are. no_codes c.args.region above c.args.co
 pub returns-in_err-open_country : goal.returns-in_err-open_country
 returns-in_err-open_country c = λ above at codes are.
     handed_on c.from_residual.result c.in_err-open_country.field-0.0 _ _ c.from_residual.ensures.1
-        (open_all_stop c.args.codes.now c.loop-code.code-index c.args.region above c.loop-code.countries c.in_err-open_country.field-0.0 c.loop-code-test.true codes
-            (c.loop-code.invariant above at codes are) c.in_err-open_country.ensures)
+    (open_all_stop c.args.codes.now c.loop-code.code-index c.args.region above c.loop-code.countries c.in_err-open_country.field-0.0 c.loop-code-test.true codes
+    (c.loop-code.invariant above at codes are) c.in_err-open_country.ensures)
 
 pub loop-code-preserved : goal.loop-code-preserved
 loop-code-preserved c = λ above at codes are.
     opened_step c.args.codes.now c.loop-code.code-index c.args.region above c.args.line c.loop-code.countries c.open_country.new.countries c.loop-code-test.true at codes
-        (c.loop-code.invariant above at codes are) c.in_ok-open_country.ensures
+    (c.loop-code.invariant above at codes are) c.in_ok-open_country.ensures

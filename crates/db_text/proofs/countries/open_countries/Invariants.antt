@@ -1,4 +1,4 @@
-use Rattle.std.proofs.Common.{◌≡◌, ℕ, ◌+◌, List, ◌∷◌, length, take, All}
+use Rattle.std.proofs.Common.{◌≡◌, ◌+◌, List, ◌∷◌, length, take, All}
 use Rattle.rule_tables.specs.Code.{IsCode}
 use Rattle.db_text.specs.Forms.{Form}
 use Rattle.db_text.specs.Forms.Form.{Country}

@@ -1,4 +1,4 @@
-use Rattle.std.proofs.Common.{rules, ◌≡◌, ◌==◌, ◌<◌, Bool, true, false, List, [], ◌∷◌, length, get_or, arith, ap, sym, ◌∙◌}
+use Rattle.std.proofs.Common.{◌≡◌, ◌==◌, ◌<◌, false, List, [], ◌∷◌, length, arith, ap, sym}
 use Rattle.std.proofs.lemmas.Bool.{eqb-true}
 use Rattle.db_text.specs.declared.countries.Country.{Country}
 use Rattle.db_text.proofs.LeastLines.{least_end, least_skips, least_takes}
@@ -25,12 +25,12 @@ pub loop-country-preserved-then-not-is_empty : goal.loop-country-preserved-then-
 loop-country-preserved-then-not-is_empty c =
     let good = some_of c.country-item.result c.if-not-is_empty.ensures in
     least_skips Bad Good (λ x. x.line) c.args.countries.now c.loop-country.country-index c.country-item.result c.loop-country.least c.loop-country-test.true c.country-item.is good
-        (λ bad. clash c.country-item.result bad good) c.loop-country.invariant
+    (λ bad. clash c.country-item.result bad good) c.loop-country.invariant
 
 pub loop-country-preserved : goal.loop-country-preserved
 loop-country-preserved c =
     least_takes Bad Good (λ x. x.line) clash c.args.countries.now c.loop-country.country-index c.country-item.result c.loop-country.least c.lesser.result c.loop-country-test.true c.country-item.is
-        (nothing_from_length c.country-item.result.rules (eqb-true (length c.country-item.result.rules) 0 (sym c.if-not-is_empty.ensures))) c.lesser.ensures c.loop-country.invariant
+    (nothing_from_length c.country-item.result.rules (eqb-true (length c.country-item.result.rules) 0 (sym c.if-not-is_empty.ensures))) c.lesser.ensures c.loop-country.invariant
 
 pub returns : goal.returns
 returns c = least_end Bad Good (λ x. x.line) c.args.countries.now c.loop-country.country-index c.loop-country.least c.loop-country-test.false c.loop-country.invariant

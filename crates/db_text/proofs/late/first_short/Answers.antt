@@ -1,4 +1,4 @@
-use Rattle.std.proofs.Common.{rules, ◌≡◌, get_or, refl}
+use Rattle.std.proofs.Common.{rules, get_or}
 use Rattle.freq_range.specs.Valid.{IsValidWmm}
 use Rattle.db_text.specs.Forms.{no_items}
 use Rattle.db_text.specs.declared.wmm_rules.WmmBlock.{WmmBlock}
@@ -19,13 +19,13 @@ pub loop-block-preserved-then-is_valid : goal.loop-block-preserved-then-is_valid
 loop-block-preserved-then-is_valid c =
     let good : Good (get_or c.args.blocks.now c.loop-block.block-index some_block) = search rules in
     least_skips Bad Good (λ x. x.line) c.args.blocks.now c.loop-block.block-index (get_or c.args.blocks.now c.loop-block.block-index some_block) c.loop-block.least c.loop-block-test.true
-        (get_or_same c.args.blocks.now c.loop-block.block-index some_block c.loop-block-test.true) good (λ bad. bad good) c.loop-block.invariant
+    (get_or_same c.args.blocks.now c.loop-block.block-index some_block c.loop-block-test.true) good (λ bad. bad good) c.loop-block.invariant
 
 pub loop-block-preserved : goal.loop-block-preserved
 loop-block-preserved c =
     let bad : Bad (get_or c.args.blocks.now c.loop-block.block-index some_block) = search rules in
     least_takes Bad Good (λ x. x.line) (λ x b good. b good) c.args.blocks.now c.loop-block.block-index (get_or c.args.blocks.now c.loop-block.block-index some_block) c.loop-block.least c.lesser.result
-        c.loop-block-test.true (get_or_same c.args.blocks.now c.loop-block.block-index some_block c.loop-block-test.true) bad c.lesser.ensures c.loop-block.invariant
+    c.loop-block-test.true (get_or_same c.args.blocks.now c.loop-block.block-index some_block c.loop-block-test.true) bad c.lesser.ensures c.loop-block.invariant
 
 pub returns : goal.returns
 returns c = least_end Bad Good (λ x. x.line) c.args.blocks.now c.loop-block.block-index c.loop-block.least c.loop-block-test.false c.loop-block.invariant

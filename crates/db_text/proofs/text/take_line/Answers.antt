@@ -1,4 +1,4 @@
-use Rattle.std.proofs.Common.{◌≡◌, ℕ, ◌+◌, List, length, ◌∙◌}
+use Rattle.std.proofs.Common.{◌∙◌}
 use Rattle.db_text.proofs.Stops.{handed_on}
 use Rattle.db_text.proofs.WholeLine.{whole_line, whole_stop}
 use Rattle.db_text.proofs.text.take_line.Goals as goal
@@ -7,7 +7,7 @@ pub returns-in_err-take-in-Ok : goal.returns-in_err-take-in-Ok
 returns-in_err-take-in-Ok c = λ above at sound stands.
     let bare = c.as_slice.ensures.value ∙ c.in_ok-squeeze-in-Ok.ensures in
     handed_on c.from_residual-in_err-take-in-Ok.result c.in_err-take-in-Ok.field-0.0 _ _ c.from_residual-in_err-take-in-Ok.ensures.1
-        (whole_stop above c.args.line.now c.in_err-take-in-Ok.field-0.0 c.in-Ok.ensures ((rw bare at c.in_err-take-in-Ok.ensures) above at sound stands))
+    (whole_stop above c.args.line.now c.in_err-take-in-Ok.field-0.0 c.in-Ok.ensures ((rw bare at c.in_err-take-in-Ok.ensures) above at sound stands))
 
 pub returns-in_ok-take-in-Ok : goal.returns-in_ok-take-in-Ok
 returns-in_ok-take-in-Ok c = λ above at sound stands.

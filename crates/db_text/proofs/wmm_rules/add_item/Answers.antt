@@ -9,5 +9,5 @@ returns-in-Some c =
     let updates = (c.get_mut.follows.holds c.add.new.self).3 (search rules) in
     let was : block_named c.args.blocks.now c.args.name.now ≡ Some c.in-Some.block.now = search rules in
     MatchResult-weaker c.add.result c.add.ensures
-        (λ v added. adds c.args.name.now c.args.item c.args.entry c.args.blocks.now _ c.in-Some.block.now c.add.new.self was updates.3 updates.1 added)
-        (λ e stop. (c.in-Some.block.now, was, stop))
+    (λ v added. adds c.args.name.now c.args.item c.args.entry c.args.blocks.now _ c.in-Some.block.now c.add.new.self was updates.3 updates.1 added)
+    (λ e stop. (c.in-Some.block.now, was, stop))

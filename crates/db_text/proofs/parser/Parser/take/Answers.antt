@@ -1,4 +1,4 @@
-use Rattle.std.proofs.Common.{rules, ◌≡◌, ℕ, ◌+◌, List, [], length}
+use Rattle.std.proofs.Common.{rules, ◌≡◌, length}
 use Rattle.db_text.proofs.EmptyTaken.{taken_empty}
 use Rattle.db_text.proofs.Assembled.{nothing_from_length}
 use Rattle.db_text.proofs.parser.Parser.take.Goals as goal
