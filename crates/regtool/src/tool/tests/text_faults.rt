@@ -105,7 +105,7 @@ fn headers_are_judged(rt: HostRuntime) -> Result<(), Fail> {
 }
 
 #[test]
-fn bands_and_powers_are_judged(rt: HostRuntime) -> Result<(), Fail> {
+fn bands_are_judged(rt: HostRuntime) -> Result<(), Fail> {
     are_refused(
         &rt,
         rt.alloc(),
@@ -142,6 +142,16 @@ fn bands_and_powers_are_judged(rt: HostRuntime) -> Result<(), Fail> {
                 TextKind::BadBand,
             ),
             (b"country US:\n()\n", 2, TextKind::BadBand),
+        ],
+    )
+}
+
+#[test]
+fn powers_are_judged(rt: HostRuntime) -> Result<(), Fail> {
+    are_refused(
+        &rt,
+        rt.alloc(),
+        &[
             // dBm and milliwatts out of their range, three decimals, no comma
             (
                 b"country US:\n(2400 - 2472 @ 40), (655.36)\n",
