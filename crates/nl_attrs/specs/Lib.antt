@@ -1,0 +1,4 @@
+pub mod Endian
+pub mod Attributes
+pub mod Messages
+pub mod Faults

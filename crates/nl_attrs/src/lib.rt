@@ -1,0 +1,15 @@
+//! Netlink messages after nl80211, as values and as bytes.
+#![tactic(auto)]
+
+mod attr;
+mod attr_writer;
+mod fault;
+mod lists;
+mod message;
+mod numbers;
+
+pub use attr::Attr;
+pub use attr_writer::attrs_bytes;
+pub use fault::{AttrFault, AttrsFault, EncodeFault, NextFault};
+pub use lists::{AttrList, MsgList};
+pub use message::Msg;
