@@ -1,7 +1,7 @@
 -- What is wrong with the bytes at the front of a stream, and when it is judged.
 use Rattle.std.specs.Prelude.{◌≡◌, ◌≢◌, ℕ, ◌+◌, ◌*◌, ◌%◌, ◌<◌, ◌≤◌, ◌==◌, ◌⊎◌, ◌&&◌, ◌||◌, not, nat_lt, nat_le, List, [], ◌∷◌, ◌++◌, length, take, drop, min, All, Option, Some, None, if◌then◌else◌, slice_index_or, ◌^◌, ◌-◌}
 use Rattle.nl_attrs.specs.Endian.{u16_at, u32_at}
-use Rattle.nl_attrs.specs.Attributes.{IsFirstBreach}
+use Rattle.nl_attrs.specs.Attributes.{IsFirstBreach, attrs_bytes}
 use Rattle.nl_attrs.specs.Messages.{spelled, attrs_in, body_of}
 use Rattle.nl_attrs.specs.declared.attr.Attr.{Attr}
 use Rattle.nl_attrs.specs.declared.message.Msg.{Msg}
@@ -101,12 +101,19 @@ abbrev pub IsListFault : List Attr → EncodeFault → Type 0
 IsListFault attrs (encode_faults.Overlong n) = IsFirstLong attrs n
 IsListFault attrs encode_faults.OutOfMemory = Unit {0}
 
--- The message has n bytes, above 65,536. Nothing is counted past 2 ^ 64 - 1.
-abbrev pub IsTooLong : Msg → ℕ → Type 0
-IsTooLong m n = (65536 < length (spelled m)) × (n ≡ min (length (spelled m)) (2 ^ 64 - 1))
+-- What has that many bytes is above 65,536. Nothing is counted past 2 ^ 64 - 1.
+abbrev pub IsTooLong : ℕ → ℕ → Type 0
+IsTooLong bytes n = (65536 < bytes) × (n ≡ min bytes (2 ^ 64 - 1))
+
+-- why a message of a family with these attributes can't be written: the first payload that is too long, or else the
+-- message, whose attributes stand behind 20 bytes
+abbrev pub IsSizeFault : List Attr → EncodeFault → Type 0
+IsSizeFault attrs (encode_faults.Overlong n) =
+    IsFirstLong attrs n ⊎ (All IsShort attrs × IsTooLong (20 + length (attrs_bytes attrs)) n)
+IsSizeFault attrs encode_faults.OutOfMemory = Unit {0}
 
 -- why a message can't be written: its first payload that is too long, or else the message
 abbrev pub IsEncodeFault : Msg → EncodeFault → Type 0
 IsEncodeFault m (encode_faults.Overlong n) =
-    IsFirstLong (attrs_in m) n ⊎ (All IsShort (attrs_in m) × IsTooLong m n)
+    IsFirstLong (attrs_in m) n ⊎ (All IsShort (attrs_in m) × IsTooLong (length (spelled m)) n)
 IsEncodeFault m encode_faults.OutOfMemory = Unit {0}

@@ -6,6 +6,7 @@ mod attr_writer;
 mod fault;
 mod lists;
 mod message;
+mod message_writer;
 mod numbers;
 
 pub use attr::Attr;
@@ -13,3 +14,4 @@ pub use attr_writer::attrs_bytes;
 pub use fault::{AttrFault, AttrsFault, EncodeFault, NextFault};
 pub use lists::{AttrList, MsgList};
 pub use message::Msg;
+pub use message_writer::encode;

@@ -34,3 +34,21 @@ pub enum Msg {
         code: i32,
     },
 }
+
+/// The type of an Error message (`NLMSG_ERROR`).
+pub const ERROR: u16 = 2;
+
+/// The type of a Done message (`NLMSG_DONE`).
+pub const DONE: u16 = 3;
+
+/// What stands before the body of each message.
+#[derive(Clone, Copy)]
+pub struct Head {
+    /// The bytes of the whole message.
+    pub length: u32,
+    /// The type: `ERROR`, `DONE` or a family.
+    pub kind: u16,
+    pub flags: u16,
+    pub seq: u32,
+    pub pid: u32,
+}
