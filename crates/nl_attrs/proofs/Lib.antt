@@ -1,2 +1,9 @@
 pub mod Lengths
 pub mod Written
+pub mod Places
+pub mod Taken
+pub mod Apart
+pub mod OneReading
+pub mod AttrLaws
+pub mod Judged
+pub mod ReadBodies

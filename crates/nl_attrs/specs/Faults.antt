@@ -1,14 +1,16 @@
 -- What is wrong with the bytes at the front of a stream, and when it is judged.
-use Rattle.std.specs.Prelude.{◌≡◌, ◌≢◌, ℕ, ◌+◌, ◌*◌, ◌%◌, ◌<◌, ◌≤◌, ◌==◌, ◌⊎◌, ◌&&◌, ◌||◌, not, nat_lt, nat_le, List, [], ◌∷◌, ◌++◌, length, take, drop, min, All, Option, Some, None, if◌then◌else◌, slice_index_or, ◌^◌, ◌-◌}
+use Rattle.std.specs.Prelude.{◌≡◌, ◌≢◌, ℕ, ◌+◌, ◌*◌, ◌%◌, ◌<◌, ◌≤◌, ◌==◌, ◌⊎◌, ◌&&◌, ◌||◌, not, nat_lt, nat_le, List, [], ◌∷◌, ◌++◌, length, take, drop, min, All, Option, Some, None, Result, Ok, Err, if◌then◌else◌, slice_index_or, ◌^◌, ◌-◌}
 use Rattle.nl_attrs.specs.Endian.{u16_at, u32_at}
 use Rattle.nl_attrs.specs.Attributes.{IsFirstBreach, attrs_bytes}
-use Rattle.nl_attrs.specs.Messages.{spelled, attrs_in, body_of}
+use Rattle.nl_attrs.specs.Messages.{IsMsg, spelled, attrs_in, body_of}
 use Rattle.nl_attrs.specs.declared.attr.Attr.{Attr}
 use Rattle.nl_attrs.specs.declared.message.Msg.{Msg}
 use Rattle.nl_attrs.specs.declared.fault.AttrFault.{AttrFault}
 use Rattle.nl_attrs.specs.declared.fault.AttrFault.TheVariants.{Truncated, BadLength, Overlong, BadType, BadAttr}
 use Rattle.nl_attrs.specs.declared.fault.AttrsFault.{AttrsFault}
 use Rattle.nl_attrs.specs.declared.fault.AttrsFault.TheVariants as attrs_faults
+use Rattle.nl_attrs.specs.declared.fault.NextFault.{NextFault}
+use Rattle.nl_attrs.specs.declared.fault.NextFault.TheVariants as next_faults
 use Rattle.nl_attrs.specs.declared.fault.EncodeFault.{EncodeFault}
 use Rattle.nl_attrs.specs.declared.fault.EncodeFault.TheVariants as encode_faults
 
@@ -30,6 +32,11 @@ type_fault n kind =
     if (kind == 2 && not (n == 36)) || (kind == 3 && not (n == 20)) then Some (BadLength n)
     else if nat_lt kind 2 || (nat_le 4 kind && nat_lt kind 16) then Some (BadType kind)
     else None
+
+-- no fault of the length nor of the type
+pub record IsGoodHead (n kind : ℕ) : Type 0 where
+  pub good_length : length_fault n ≡ None
+  pub good_type : type_fault n kind ≡ None
 
 -- A length is judged as soon as 4 bytes are held.
 pub record IsLengthFault (held : List ℕ) (fault : AttrFault) : Type 0 where
@@ -63,6 +70,15 @@ pub record IsBodyFault (held : List ℕ) (fault : AttrFault) : Type 0 where
   pub bad : IsBadBody (body_at held) place
   pub is : fault ≡ BadAttr place
 
+-- why the body of a message of that type can't be read
+abbrev pub IsBodyRefusal : ℕ → List ℕ → NextFault → Type 0
+IsBodyRefusal kind body (next_faults.Bad (Truncated n)) = ⊥
+IsBodyRefusal kind body (next_faults.Bad (BadLength n)) = ⊥
+IsBodyRefusal kind body (next_faults.Bad (Overlong n)) = ⊥
+IsBodyRefusal kind body (next_faults.Bad (BadType t)) = ⊥
+IsBodyRefusal kind body (next_faults.Bad (BadAttr place)) = (16 ≤ kind) × IsBadBody body place
+IsBodyRefusal kind body next_faults.OutOfMemory = Unit {0}
+
 -- the first fault of the message at the front
 abbrev pub IsFault : List ℕ → AttrFault → Type 0
 IsFault held fault = IsLengthFault held fault ⊎ (IsTypeFault held fault ⊎ IsBodyFault held fault)
@@ -74,6 +90,11 @@ pub record IsBegun (held : List ℕ) : Type 0 where
   pub good_type : 6 ≤ length held → type_fault (length_at held) (type_at held) ≡ None
   pub left : length held < length_at held
 
+-- the head shows no fault so far
+pub record IsGoodSoFar (held : List ℕ) : Type 0 where
+  pub good_length : 4 ≤ length held → length_fault (length_at held) ≡ None
+  pub good_type : 6 ≤ length held → type_fault (length_at held) (type_at held) ≡ None
+
 -- neither a message nor a fault stands at the front yet
 abbrev pub IsUndecided : List ℕ → Type 0
 IsUndecided held = (length held < 4) ⊎ IsBegun held
@@ -82,6 +103,11 @@ IsUndecided held = (length held < 4) ⊎ IsBegun held
 abbrev pub IsAttrsFault : List ℕ → AttrsFault → Type 0
 IsAttrsFault payload (attrs_faults.BadAttr place) = IsFirstBreach payload place
 IsAttrsFault payload attrs_faults.OutOfMemory = Unit {0}
+
+-- what reading gives where the payload is these attributes: them, unless memory runs out
+abbrev pub GivesAttrs : Result (List Attr) AttrsFault → List Attr → Type 0
+GivesAttrs (Ok list) attrs = list ≡ attrs
+GivesAttrs (Err fault) attrs = fault ≡ attrs_faults.OutOfMemory
 
 abbrev pub IsShort : Attr → Type 0
 IsShort a = length a.payload ≤ 65531
@@ -117,3 +143,15 @@ abbrev pub IsEncodeFault : Msg → EncodeFault → Type 0
 IsEncodeFault m (encode_faults.Overlong n) =
     IsFirstLong (attrs_in m) n ⊎ (All IsShort (attrs_in m) × IsTooLong (length (spelled m)) n)
 IsEncodeFault m encode_faults.OutOfMemory = Unit {0}
+
+-- why the message at the front can't be taken
+abbrev pub IsRefusal : List ℕ → NextFault → Type 0
+IsRefusal held (next_faults.Bad fault) = IsFault held fault
+IsRefusal held next_faults.OutOfMemory = Unit {0}
+
+-- a message and its length, at the front
+pub record TakesMessage (held : List ℕ) (m : Msg) (n : ℕ) : Type 0 where
+  pub message : IsMsg m
+  pub count : n ≡ length (spelled m)
+  pub within : n ≤ length held
+  pub front : held ≡ spelled m ++ drop n held

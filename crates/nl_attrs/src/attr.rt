@@ -12,3 +12,12 @@ pub struct Attr {
     /// At most 65,531 bytes where the attribute is to be written.
     pub payload: Bytes,
 }
+
+/// The bytes of an attribute's length and kind.
+pub const HEADER: usize = 4;
+
+/// The bit of the kind that says nested (`NLA_F_NESTED`).
+pub const NESTED: u16 = 0x8000;
+
+/// The bit of the kind that isn't used here (`NLA_F_NET_BYTEORDER`).
+pub const RESERVED: u16 = 0x4000;

@@ -4,21 +4,15 @@ ghost use Rattle.std.specs.Prelude.{◌≡◌, ◌+◌, ◌-◌, ◌<◌, ◌≤
 ghost use Rattle.nl_attrs.specs.Attributes.{IsAttr, padding, kind_field, attr_bytes, attrs_bytes};
 ghost use Rattle.nl_attrs.specs.Faults.{IsShort, IsFirstLong, IsListFault};
 
-use crate::attr::Attr;
+use crate::attr::{Attr, HEADER, NESTED};
 use crate::fault::EncodeFault;
 use crate::lists::AttrList;
 use crate::numbers::put_u16;
 use reg_base::{Bytes, OutOfMemory};
 use std::alloc::Global;
 
-/// The bytes of an attribute's length and kind.
-const HEADER: usize = 4;
-
 /// The greatest payload, in bytes.
 const MOST_PAYLOAD: usize = 65_531;
-
-/// The bit of the kind that says nested (`NLA_F_NESTED`).
-const NESTED: u16 = 0x8000;
 
 /// The kind with its bit for nested.
 fn kind_field(attr: &Attr) -> u16

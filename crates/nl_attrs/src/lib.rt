@@ -2,14 +2,17 @@
 #![tactic(auto)]
 
 mod attr;
+mod attr_reader;
 mod attr_writer;
 mod fault;
 mod lists;
 mod message;
+mod message_reader;
 mod message_writer;
 mod numbers;
 
 pub use attr::Attr;
+pub use attr_reader::attrs_of;
 pub use attr_writer::attrs_bytes;
 pub use fault::{AttrFault, AttrsFault, EncodeFault, NextFault};
 pub use lists::{AttrList, MsgList};

@@ -1,7 +1,7 @@
 //! Numbers in bytes, the lowest byte first.
 
 ghost use Rattle.std.specs.Prelude.{◌≡◌, ◌+◌, ◌≤◌, ◌++◌, length, OnOk};
-ghost use Rattle.std.specs.Int.{w32, cast_unsigned};
+ghost use Rattle.std.specs.Int.{w32, cast_signed, cast_unsigned};
 ghost use Rattle.nl_attrs.specs.Endian.{le16, le32, u16_at, u32_at};
 
 use reg_base::{Bytes, OutOfMemory};
@@ -49,6 +49,20 @@ pub fn u32_at(bytes: &[u8], place: usize) -> u32
     ensures { result ≡ u32_at bytes.now place }
 {
     u32::from_le_bytes([
+        bytes[place],
+        bytes[place + 1],
+        bytes[place + 2],
+        bytes[place + 3],
+    ])
+}
+
+/// The signed number in the four bytes from a place on.
+#[tactic(auto, unfolding(crate::specs::Endian::u32_at))]
+pub fn i32_at(bytes: &[u8], place: usize) -> i32
+    requires { place + 4 ≤ length bytes.now }
+    ensures { result ≡ cast_signed w32 (u32_at bytes.now place) }
+{
+    i32::from_le_bytes([
         bytes[place],
         bytes[place + 1],
         bytes[place + 2],

@@ -1,0 +1,186 @@
+//! Reads messages.
+
+ghost use Rattle.std.specs.Prelude.{◌≡◌, ◌+◌, ◌<◌, ◌≤◌, ◌++◌, length, drop, IfOk, IfErr, MatchOption, MatchResult, None};
+ghost use Rattle.nl_attrs.specs.Attributes.{attrs_bytes};
+ghost use Rattle.nl_attrs.specs.Messages.{IsMsg, head_bytes, spelled};
+ghost use Rattle.nl_attrs.specs.Faults.{IsGoodHead, IsGoodSoFar, IsFault, IsBodyRefusal, IsRefusal, IsUndecided, TakesMessage, length_at, type_at, length_fault, type_fault};
+
+use crate::attr_reader::attrs_of;
+use crate::fault::{AttrFault, AttrsFault, NextFault};
+use crate::message::{DONE, ERROR, Head, Msg};
+use crate::numbers::{i32_at, u16_at, u32_at};
+use std::alloc::Global;
+
+/// The bytes of a message's head.
+const HEAD: usize = 16;
+
+/// The bytes of a family's message before its attributes.
+const GENERIC_HEAD: u64 = 20;
+
+/// The place of a family's reserved number.
+const RESERVED_PLACE: u64 = 18;
+
+/// The greatest message, in bytes.
+const MOST_BYTES: u32 = 65_536;
+
+/// The fault of a length.
+#[tactic(auto, unfolding(crate::specs::Faults::length_fault))]
+fn length_fault(length: u32) -> Option<AttrFault>
+    ensures { result ≡ length_fault length }
+{
+    if length < 20 || length % 4 != 0 {
+        Some(AttrFault::BadLength(length))
+    } else if length > MOST_BYTES {
+        Some(AttrFault::Overlong(length))
+    } else {
+        None
+    }
+}
+
+/// The fault of a type under a length.
+#[tactic(auto, unfolding(crate::specs::Faults::type_fault))]
+fn type_fault(length: u32, kind: u16) -> Option<AttrFault>
+    ensures { result ≡ type_fault length kind }
+{
+    if (kind == ERROR && length != 36) || (kind == DONE && length != 20) {
+        Some(AttrFault::BadLength(length))
+    } else if kind < 2 || (4 <= kind && kind < 16) {
+        Some(AttrFault::BadType(kind))
+    } else {
+        None
+    }
+}
+
+/// The fault that the head shows as far as it is held.
+fn early_fault(held: &[u8]) -> Option<AttrFault>
+    ensures { MatchOption result (IsGoodSoFar held.now) (IsFault held.now) }
+{
+    if held.len() < 4 {
+        return None;
+    }
+    let length = u32_at(held, 0);
+    if let Some(fault) = length_fault(length) {
+        return Some(fault);
+    }
+    if held.len() < 6 {
+        return None;
+    }
+    type_fault(length, u16_at(held, 4))
+}
+
+/// The head of a message.
+fn head_at(bytes: &[u8]) -> Head
+    requires { 16 ≤ length bytes.now }
+    ensures parts { bytes.now ≡ head_bytes result.length result.kind result.flags result.seq result.pid ++ drop 16 bytes.now }
+    ensures length { result.length ≡ length_at bytes.now }
+    ensures kind { result.kind ≡ type_at bytes.now }
+{
+    Head {
+        length: u32_at(bytes, 0),
+        kind: u16_at(bytes, 4),
+        flags: u16_at(bytes, 6),
+        seq: u32_at(bytes, 8),
+        pid: u32_at(bytes, 12),
+    }
+}
+
+/// The Done message with that head and body.
+fn done_of(head: &Head, body: &[u8]) -> Msg
+    requires { length body.now ≡ 4 }
+    ensures message { IsMsg result }
+    ensures spelled { head_bytes 20 3 head.now.flags head.now.seq head.now.pid ++ body.now ≡ spelled result }
+{
+    Msg::Done {
+        flags: head.flags,
+        seq: head.seq,
+        pid: head.pid,
+        code: i32_at(body, 0),
+    }
+}
+
+/// The Error message with that head and body.
+fn error_of(head: &Head, body: &[u8]) -> Msg
+    requires { length body.now ≡ 20 }
+    ensures message { IsMsg result }
+    ensures spelled { head_bytes 36 2 head.now.flags head.now.seq head.now.pid ++ body.now ≡ spelled result }
+{
+    let mut request = [0u8; 16];
+    request.copy_from_slice(&body[4..]);
+    Msg::Error {
+        flags: head.flags,
+        seq: head.seq,
+        pid: head.pid,
+        code: i32_at(body, 0),
+        head: request,
+    }
+}
+
+/// The message of a family with that head and body.
+fn generic_of(alloc: Global, head: &Head, body: &[u8]) -> Result<Msg, NextFault>
+    requires family { 16 ≤ head.now.kind }
+    requires long { 4 ≤ length body.now }
+    requires short { length body.now ≤ 65520 }
+    ensures message { IfOk result IsMsg }
+    ensures spelled { IfOk result (λ m. head_bytes (16 + length body.now) head.now.kind head.now.flags head.now.seq head.now.pid
+        ++ body.now ≡ spelled m) }
+    ensures fault { IfErr result (IsBodyRefusal head.now.kind body.now) }
+{
+    if u16_at(body, 2) != 0 {
+        return Err(NextFault::Bad(AttrFault::BadAttr(RESERVED_PLACE)));
+    }
+    match attrs_of(alloc, &body[4..]) {
+        Ok(attrs) => Ok(Msg::Generic {
+            family: head.kind,
+            flags: head.flags,
+            seq: head.seq,
+            pid: head.pid,
+            cmd: body[0],
+            version: body[1],
+            attrs,
+        }),
+        Err(AttrsFault::BadAttr(place)) => {
+            Err(NextFault::Bad(AttrFault::BadAttr(GENERIC_HEAD + place)))
+        }
+        Err(AttrsFault::OutOfMemory) => Err(NextFault::OutOfMemory),
+    }
+}
+
+/// The message with that head, which has no fault, and that body.
+fn message_of(alloc: Global, head: &Head, body: &[u8]) -> Result<Msg, NextFault>
+    requires length { head.now.length ≡ 16 + length body.now }
+    requires good { IsGoodHead head.now.length head.now.kind }
+    ensures message { IfOk result IsMsg }
+    ensures spelled { IfOk result (λ m. head_bytes head.now.length head.now.kind head.now.flags head.now.seq head.now.pid
+        ++ body.now ≡ spelled m) }
+    ensures fault { IfErr result (IsBodyRefusal head.now.kind body.now) }
+{
+    match head.kind {
+        ERROR => Ok(error_of(head, body)),
+        DONE => Ok(done_of(head, body)),
+        _ => {
+            let message = generic_of(alloc, head, body)?;
+            Ok(message)
+        }
+    }
+}
+
+/// The message at the front of the bytes with its length, or `None` where it isn't whole.
+pub fn message_at(alloc: Global, held: &[u8]) -> Result<Option<(Msg, usize)>, NextFault>
+    ensures message { IfOk result (λ found. MatchOption found (IsUndecided held.now) (λ x. TakesMessage held.now x.0 x.1)) }
+    ensures fault { IfErr result (IsRefusal held.now) }
+{
+    if let Some(fault) = early_fault(held) {
+        return Err(NextFault::Bad(fault));
+    }
+    if held.len() < 4 {
+        return Ok(None);
+    }
+    let length = u32_at(held, 0) as usize;
+    if held.len() < length {
+        return Ok(None);
+    }
+    let bytes = &held[..length];
+    let head = head_at(bytes);
+    let message = message_of(alloc, &head, &bytes[HEAD..])?;
+    Ok(Some((message, length)))
+}
