@@ -7,3 +7,4 @@ pub mod OneReading
 pub mod AttrLaws
 pub mod Judged
 pub mod ReadBodies
+pub mod Fronts

@@ -34,6 +34,11 @@ head_taken b fits long =
 
 -- ---- a code that was read
 
+-- a signed number is passed on by its bits
+pub code_as_read : (b : List ℕ) (code : ℤ) → IsBytes b → code ≡ cast_signed w32 (u32_at b 0) → cast_signed w32 (cast_unsigned w32 code) ≡ cast_signed w32 (u32_at b 0)
+code_as_read b code fits is =
+    ap (λ (z : ℤ). cast_signed w32 (cast_unsigned w32 z)) is ∙ ap (cast_signed w32) (of_z-to_z w32 (u32_at b 0) (u32_at-lt b 0 fits))
+
 pub code_fits : (b : List ℕ) (code : ℤ) → IsBytes b → code ≡ cast_signed w32 (u32_at b 0) → FitsSigned w32 code
 code_fits b code fits is = rw is (sfits_to_z (record { fits = u32_at-lt b 0 fits }))
 

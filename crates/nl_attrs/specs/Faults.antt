@@ -95,6 +95,14 @@ pub record IsGoodSoFar (held : List ℕ) : Type 0 where
   pub good_length : 4 ≤ length held → length_fault (length_at held) ≡ None
   pub good_type : 6 ≤ length held → type_fault (length_at held) (type_at held) ≡ None
 
+-- a message of n bytes is whole, and its head has no fault
+pub record IsWhole (held : List ℕ) (n : ℕ) : Type 0 where
+  pub is : n ≡ length_at held
+  pub good : IsGoodHead (length_at held) (type_at held)
+  pub long : 20 ≤ n
+  pub short : n ≤ 65536
+  pub within : n ≤ length held
+
 -- neither a message nor a fault stands at the front yet
 abbrev pub IsUndecided : List ℕ → Type 0
 IsUndecided held = (length held < 4) ⊎ IsBegun held

@@ -3,7 +3,7 @@
 ghost use Rattle.std.specs.Prelude.{◌≡◌, ◌+◌, ◌<◌, ◌≤◌, ◌++◌, length, drop, IfOk, IfErr, MatchOption, MatchResult, None};
 ghost use Rattle.nl_attrs.specs.Attributes.{attrs_bytes};
 ghost use Rattle.nl_attrs.specs.Messages.{IsMsg, head_bytes, spelled};
-ghost use Rattle.nl_attrs.specs.Faults.{IsGoodHead, IsGoodSoFar, IsFault, IsBodyRefusal, IsRefusal, IsUndecided, TakesMessage, length_at, type_at, length_fault, type_fault};
+ghost use Rattle.nl_attrs.specs.Faults.{IsGoodHead, IsGoodSoFar, IsFault, IsBodyRefusal, IsRefusal, IsUndecided, IsWhole, TakesMessage, length_at, type_at, length_fault, type_fault};
 
 use crate::attr_reader::attrs_of;
 use crate::fault::{AttrFault, AttrsFault, NextFault};
@@ -85,10 +85,10 @@ fn head_at(bytes: &[u8]) -> Head
 }
 
 /// The Done message with that head and body.
-fn done_of(head: &Head, body: &[u8]) -> Msg
+fn done_of(head: Head, body: &[u8]) -> Msg
     requires { length body.now ≡ 4 }
     ensures message { IsMsg result }
-    ensures spelled { head_bytes 20 3 head.now.flags head.now.seq head.now.pid ++ body.now ≡ spelled result }
+    ensures spelled { head_bytes 20 3 head.flags head.seq head.pid ++ body.now ≡ spelled result }
 {
     Msg::Done {
         flags: head.flags,
@@ -99,10 +99,10 @@ fn done_of(head: &Head, body: &[u8]) -> Msg
 }
 
 /// The Error message with that head and body.
-fn error_of(head: &Head, body: &[u8]) -> Msg
+fn error_of(head: Head, body: &[u8]) -> Msg
     requires { length body.now ≡ 20 }
     ensures message { IsMsg result }
-    ensures spelled { head_bytes 36 2 head.now.flags head.now.seq head.now.pid ++ body.now ≡ spelled result }
+    ensures spelled { head_bytes 36 2 head.flags head.seq head.pid ++ body.now ≡ spelled result }
 {
     let mut request = [0u8; 16];
     request.copy_from_slice(&body[4..]);
@@ -116,14 +116,14 @@ fn error_of(head: &Head, body: &[u8]) -> Msg
 }
 
 /// The message of a family with that head and body.
-fn generic_of(alloc: Global, head: &Head, body: &[u8]) -> Result<Msg, NextFault>
-    requires family { 16 ≤ head.now.kind }
+fn generic_of(alloc: Global, head: Head, body: &[u8]) -> Result<Msg, NextFault>
+    requires family { 16 ≤ head.kind }
     requires long { 4 ≤ length body.now }
     requires short { length body.now ≤ 65520 }
     ensures message { IfOk result IsMsg }
-    ensures spelled { IfOk result (λ m. head_bytes (16 + length body.now) head.now.kind head.now.flags head.now.seq head.now.pid
+    ensures spelled { IfOk result (λ m. head_bytes (16 + length body.now) head.kind head.flags head.seq head.pid
         ++ body.now ≡ spelled m) }
-    ensures fault { IfErr result (IsBodyRefusal head.now.kind body.now) }
+    ensures fault { IfErr result (IsBodyRefusal head.kind body.now) }
 {
     if u16_at(body, 2) != 0 {
         return Err(NextFault::Bad(AttrFault::BadAttr(RESERVED_PLACE)));
@@ -146,13 +146,13 @@ fn generic_of(alloc: Global, head: &Head, body: &[u8]) -> Result<Msg, NextFault>
 }
 
 /// The message with that head, which has no fault, and that body.
-fn message_of(alloc: Global, head: &Head, body: &[u8]) -> Result<Msg, NextFault>
-    requires length { head.now.length ≡ 16 + length body.now }
-    requires good { IsGoodHead head.now.length head.now.kind }
+fn message_of(alloc: Global, head: Head, body: &[u8]) -> Result<Msg, NextFault>
+    requires length { head.length ≡ 16 + length body.now }
+    requires good { IsGoodHead head.length head.kind }
     ensures message { IfOk result IsMsg }
-    ensures spelled { IfOk result (λ m. head_bytes head.now.length head.now.kind head.now.flags head.now.seq head.now.pid
+    ensures spelled { IfOk result (λ m. head_bytes head.length head.kind head.flags head.seq head.pid
         ++ body.now ≡ spelled m) }
-    ensures fault { IfErr result (IsBodyRefusal head.now.kind body.now) }
+    ensures fault { IfErr result (IsBodyRefusal head.kind body.now) }
 {
     match head.kind {
         ERROR => Ok(error_of(head, body)),
@@ -164,13 +164,12 @@ fn message_of(alloc: Global, head: &Head, body: &[u8]) -> Result<Msg, NextFault>
     }
 }
 
-/// The message at the front of the bytes with its length, or `None` where it isn't whole.
-pub fn message_at(alloc: Global, held: &[u8]) -> Result<Option<(Msg, usize)>, NextFault>
-    ensures message { IfOk result (λ found. MatchOption found (IsUndecided held.now) (λ x. TakesMessage held.now x.0 x.1)) }
-    ensures fault { IfErr result (IsRefusal held.now) }
+/// The length of the message at the front, or `None` where it isn't whole.
+fn whole_length(held: &[u8]) -> Result<Option<usize>, AttrFault>
+    ensures { MatchResult result (λ found. MatchOption found (IsUndecided held.now) (IsWhole held.now)) (IsFault held.now) }
 {
     if let Some(fault) = early_fault(held) {
-        return Err(NextFault::Bad(fault));
+        return Err(fault);
     }
     if held.len() < 4 {
         return Ok(None);
@@ -179,8 +178,32 @@ pub fn message_at(alloc: Global, held: &[u8]) -> Result<Option<(Msg, usize)>, Ne
     if held.len() < length {
         return Ok(None);
     }
-    let bytes = &held[..length];
+    Ok(Some(length))
+}
+
+/// The message that the bytes are.
+fn message_in(alloc: Global, bytes: &[u8]) -> Result<Msg, NextFault>
+    requires { IsWhole bytes.now (length bytes.now) }
+    ensures message { IfOk result IsMsg }
+    ensures spelled { IfOk result (λ m. bytes.now ≡ spelled m) }
+    ensures fault { IfErr result (IsBodyRefusal (type_at bytes.now) (drop 16 bytes.now)) }
+{
     let head = head_at(bytes);
-    let message = message_of(alloc, &head, &bytes[HEAD..])?;
-    Ok(Some((message, length)))
+    let message = message_of(alloc, head, &bytes[HEAD..])?;
+    Ok(message)
+}
+
+/// The message at the front of the bytes with its length, or `None` where it isn't whole.
+pub fn message_at(alloc: Global, held: &[u8]) -> Result<Option<(Msg, usize)>, NextFault>
+    ensures message { IfOk result (λ found. MatchOption found (IsUndecided held.now) (λ x. TakesMessage held.now x.0 x.1)) }
+    ensures fault { IfErr result (IsRefusal held.now) }
+{
+    match whole_length(held) {
+        Ok(Some(length)) => {
+            let message = message_in(alloc, &held[..length])?;
+            Ok(Some((message, length)))
+        }
+        Ok(None) => Ok(None),
+        Err(fault) => Err(NextFault::Bad(fault)),
+    }
 }
