@@ -4,6 +4,7 @@
 mod attr;
 mod attr_reader;
 mod attr_writer;
+mod decoder;
 mod fault;
 mod lists;
 mod message;
@@ -14,6 +15,7 @@ mod numbers;
 pub use attr::Attr;
 pub use attr_reader::attrs_of;
 pub use attr_writer::attrs_bytes;
+pub use decoder::Decoder;
 pub use fault::{AttrFault, AttrsFault, EncodeFault, NextFault};
 pub use lists::{AttrList, MsgList};
 pub use message::Msg;
