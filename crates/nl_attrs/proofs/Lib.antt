@@ -8,3 +8,7 @@ pub mod AttrLaws
 pub mod Judged
 pub mod ReadBodies
 pub mod Fronts
+pub mod MsgApart
+pub mod MsgLaws
+pub mod FaultLaws
+pub mod StreamLaws
