@@ -16,7 +16,7 @@ use Rattle.nl_attrs.proofs.MsgLaws.{length_at-msg, type_at-msg, body_at-msg, goo
 
 -- ---- a message has none
 
-never_undecided : (m : Msg) (r : List ℕ) → IsMsg m → IsUndecided (spelled m ++ r) → ⊥
+pub never_undecided : (m : Msg) (r : List ℕ) → IsMsg m → IsUndecided (spelled m ++ r) → ⊥
 never_undecided m r is undecided =
     let long = length-msg m is in
     let bytes = length-append (spelled m) r in
@@ -35,7 +35,7 @@ good_body (Generic family flags seq pid cmd version attrs) place fits family_hig
 good_body (Error flags seq pid code head) place fits family_high bad = omega arith
 good_body (Done flags seq pid code) place fits family_high bad = omega arith
 
-never_faulty : (m : Msg) (r : List ℕ) (fault : AttrFault) → IsMsg m → IsFault (spelled m ++ r) fault → ⊥
+pub never_faulty : (m : Msg) (r : List ℕ) (fault : AttrFault) → IsMsg m → IsFault (spelled m ++ r) fault → ⊥
 never_faulty m r fault is faulty =
     let good = good-msg m r is in
     let good_length = good.good_length in

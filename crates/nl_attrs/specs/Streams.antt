@@ -1,5 +1,5 @@
 -- The messages of a stream, and what a decoder has done with the bytes that it was fed.
-use Rattle.std.specs.Prelude.{◌≡◌, ℕ, ◌+◌, ◌-◌, ◌<◌, ◌≤◌, List, [], ◌∷◌, ◌++◌, length, All, Option, Some, None, MatchOption, Result, Ok, Err}
+use Rattle.std.specs.Prelude.{◌≡◌, ℕ, ◌+◌, ◌<◌, ◌⊎◌, List, [], ◌∷◌, ◌++◌, length, All, Option, Some, None, MatchOption, Result, Ok, Err}
 use Rattle.nl_attrs.specs.Messages.{IsMsg, spelled, all_spelled}
 use Rattle.nl_attrs.specs.Faults.{IsFault, IsUndecided}
 use Rattle.nl_attrs.specs.declared.message.Msg.{Msg}
@@ -74,7 +74,19 @@ GivesNext d fed given (Ok None) = HasGiven d fed given × AreMessages fed given 
 GivesNext d fed given (Err (Bad fault)) = HasGiven d fed given × AreMessages fed given (Some fault)
 GivesNext d fed given (Err OutOfMemory) = HasGiven d fed given
 
--- At the end: the stream is the messages given, or bytes are left after them, or the fault was met.
+-- why the stream may not end where so many bytes are held: they are too few for a message, or the fault was met
 abbrev pub IsLeft : Option AttrFault → ℕ → AttrFault → Type 0
 IsLeft None n fault = (0 < n) × (fault ≡ Truncated n)
 IsLeft (Some before) n fault = fault ≡ before
+
+-- bytes are left behind the last message
+pub record IsTruncated (fed : List ℕ) (given : List Msg) (fault : AttrFault) : Type 0 where
+  pub rest : List ℕ
+  pub joined : fed ≡ all_spelled given ++ rest
+  pub left : 0 < length rest
+  pub is : fault ≡ Truncated (length rest)
+
+-- The stream ends with the last message given, or it has the fault behind it, or bytes are left.
+abbrev pub Ends : List ℕ → List Msg → Result (Unit {0}) AttrFault → Type 0
+Ends fed given (Ok done) = fed ≡ all_spelled given
+Ends fed given (Err fault) = AreMessages fed given (Some fault) ⊎ IsTruncated fed given fault

@@ -1,11 +1,11 @@
 //! Takes messages from a stream of bytes, in whatever pieces it comes.
 
-ghost use Rattle.std.specs.Prelude.{◌≡◌, ℕ, ◌+◌, ◌^◌, ◌≤◌, ◌++◌, List, [], length, drop, Ok, Err, Some, None, IfOk, IfErr, IfSome, IfNone, OnOk, OnErr};
+ghost use Rattle.std.specs.Prelude.{◌≡◌, ℕ, ◌+◌, ◌^◌, ◌≤◌, ◌++◌, List, [], length, drop, Ok, Err, Some, None, IfOk, IfErr, IfSome, IfNone, IsSome, IsOk, OnOk, OnErr};
 ghost use Rattle.nl_attrs.specs.declared.fault.AttrFault.{AttrFault};
 ghost use Rattle.nl_attrs.specs.declared.fault.NextFault.TheVariants.{Bad};
 ghost use Rattle.nl_attrs.specs.declared.message.Msg.{Msg};
 ghost use Rattle.nl_attrs.specs.Messages.{all_spelled};
-ghost use Rattle.nl_attrs.specs.Streams.{Takes, Waits, IsNextFault, IsLeft, HasGiven, GivesNext, fresh, with_piece};
+ghost use Rattle.nl_attrs.specs.Streams.{Takes, Waits, IsNextFault, IsLeft, Ends, HasGiven, GivesNext, fresh, with_piece};
 
 use crate::fault::{AttrFault, NextFault};
 use crate::message::Msg;
@@ -73,6 +73,7 @@ impl Decoder {
         requires { self.old.taken + length self.old.held + length piece.now ≤ 2 ^ 63 }
         ensures ok { OnOk result (self.new ≡ with_piece self.old piece.now) }
         ensures err { OnErr result (self.new ≡ self.old) }
+        ensures after_fault { IsSome self.old.fault → IsOk result }
         // What was fed and given before goes on with the piece.
         ensures stream { OnOk result ((fed : List ℕ) (given : List Msg) →
             HasGiven self.old fed given → HasGiven self.new (fed ++ piece.now) given) }
@@ -115,13 +116,13 @@ impl Decoder {
         }
     }
 
-    /// Whether the stream may end here: not where bytes are held, nor after a fault.
+    /// Whether the stream may end here: not where bytes are held, nor after a fault, which is
+    /// answered then.
     pub fn finish(&self) -> Result<(), AttrFault>
         ensures done { OnOk result ((self.now.held ≡ []) × (self.now.fault ≡ None)) }
         ensures fault { IfErr result (IsLeft self.now.fault (length self.now.held)) }
-        // What was fed is no more than the spellings of the messages given.
-        ensures stream { OnOk result ((fed : List ℕ) (given : List Msg) →
-            HasGiven self.now fed given → fed ≡ all_spelled given) }
+        // What was fed is the spellings of the messages given, or has that fault behind them.
+        ensures stream { (fed : List ℕ) (given : List Msg) → HasGiven self.now fed given → Ends fed given result }
     {
         if let Some(fault) = self.fault {
             return Err(fault);

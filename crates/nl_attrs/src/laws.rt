@@ -3,6 +3,7 @@
 ghost use Rattle.std.specs.Prelude.{◌≡◌, ◌++◌, ℕ, List, [], All, Option, None, Some};
 ghost use Rattle.std.specs.List.{flat_map};
 ghost use Rattle.nl_attrs.specs.Attributes.{IsAttr, IsFirstBreach, attr_bytes, attrs_bytes};
+ghost use Rattle.nl_attrs.specs.Faults.{IsFault, IsUndecided};
 ghost use Rattle.nl_attrs.specs.Messages.{IsMsg, spelled, all_spelled};
 ghost use Rattle.nl_attrs.specs.Streams.{AreMessages};
 ghost use Rattle.nl_attrs.specs.declared.attr.Attr.{Attr};
@@ -18,6 +19,14 @@ pub fn one_spelling()
     ensures list { (xs ys : List Attr) → All IsAttr xs → All IsAttr ys → attrs_bytes xs ≡ attrs_bytes ys → xs ≡ ys }
     ensures place { (payload : List ℕ) (j k : ℕ) → IsFirstBreach payload j → IsFirstBreach payload k → j ≡ k }
     ensures never_both { (xs : List Attr) (k : ℕ) → All IsAttr xs → IsFirstBreach (attrs_bytes xs) k → ⊥ }
+{}
+
+/// At the front of a stream is one of three: a message, a fault, or what is undecided.
+pub fn one_verdict()
+    ensures whole { (m : Msg) (rest : List ℕ) → IsMsg m → IsUndecided (spelled m ++ rest) → ⊥ }
+    ensures sound { (m : Msg) (rest : List ℕ) (f : AttrFault) → IsMsg m → IsFault (spelled m ++ rest) f → ⊥ }
+    ensures decided { (held : List ℕ) (f : AttrFault) → IsUndecided held → IsFault held f → ⊥ }
+    ensures fault { (held : List ℕ) (f g : AttrFault) → IsFault held f → IsFault held g → f ≡ g }
 {}
 
 /// A stream has one list of messages and at most one fault, whatever the cut of its pieces. The

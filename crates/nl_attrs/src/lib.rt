@@ -18,7 +18,7 @@ pub use attr_reader::attrs_of;
 pub use attr_writer::attrs_bytes;
 pub use decoder::Decoder;
 pub use fault::{AttrFault, AttrsFault, EncodeFault, NextFault};
-pub use laws::{one_spelling, one_stream, reads_back};
+pub use laws::{one_spelling, one_stream, one_verdict, reads_back};
 pub use lists::{AttrList, MsgList};
 pub use message::Msg;
 pub use message_writer::encode;

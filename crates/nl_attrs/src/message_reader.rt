@@ -23,6 +23,9 @@ const RESERVED_PLACE: u64 = 18;
 /// The greatest message, in bytes.
 const MOST_BYTES: u32 = 65_536;
 
+/// The least family: a type below is another or none.
+const LEAST_FAMILY: u16 = 16;
+
 /// The fault of a length.
 #[tactic(auto, unfolding(crate::specs::Faults::length_fault))]
 fn length_fault(length: u32) -> Option<AttrFault>
@@ -44,7 +47,7 @@ fn type_fault(length: u32, kind: u16) -> Option<AttrFault>
 {
     if (kind == ERROR && length != 36) || (kind == DONE && length != 20) {
         Some(AttrFault::BadLength(length))
-    } else if kind < 2 || (4 <= kind && kind < 16) {
+    } else if kind < ERROR || (DONE < kind && kind < LEAST_FAMILY) {
         Some(AttrFault::BadType(kind))
     } else {
         None
