@@ -34,6 +34,13 @@ kind_field-same j k false false j_fits k_fits e = (omega arith, refl)
 kind_field-same j k true false j_fits k_fits e = absurd (omega arith)
 kind_field-same j k false true j_fits k_fits e = absurd (omega arith)
 
+-- what stands from the payload on, and from the kind on
+abbrev from_payload : Attr → List ℕ → List ℕ
+from_payload a r = a.payload ++ (replicate (padding (length a.payload)) 0 ++ r)
+
+abbrev from_kind : Attr → List ℕ → List ℕ
+from_kind a r = le16 (kind_field a.kind a.nested) ++ from_payload a r
+
 pub attr_regrouped : (a : Attr) (r : List ℕ) → attr_bytes a ++ r ≡ le16 (4 + length a.payload) ++ (le16 (kind_field a.kind a.nested) ++ (a.payload ++ (replicate (padding (length a.payload)) 0 ++ r)))
 unfolding attr_bytes
 attr_regrouped a r = simp append_assoc
@@ -46,8 +53,8 @@ attr-apart a b r s fits_a fits_b e =
     let short_a = fits_a.short in
     let short_b = fits_b.short in
     let grouped = sym (attr_regrouped a r) ∙ e ∙ attr_regrouped b s in
-    let lengths = le16-apart (4 + length a.payload) (4 + length b.payload) _ _ (omega arith) (omega arith) grouped in
-    let fields = le16-apart (kind_field a.kind a.nested) (kind_field b.kind b.nested) _ _ (kind_field-lt a.kind a.nested fits_a.kind) (kind_field-lt b.kind b.nested fits_b.kind) lengths.1 in
+    let lengths = le16-apart (4 + length a.payload) (4 + length b.payload) (from_kind a r) (from_kind b s) (omega arith) (omega arith) grouped in
+    let fields = le16-apart (kind_field a.kind a.nested) (kind_field b.kind b.nested) (from_payload a r) (from_payload b s) (kind_field-lt a.kind a.nested fits_a.kind) (kind_field-lt b.kind b.nested fits_b.kind) lengths.1 in
     let kinds = kind_field-same a.kind b.kind a.nested b.nested fits_a.kind fits_b.kind fields.0 in
     let long : length a.payload ≡ length b.payload = omega (arith, lengths.0) in
     let payloads = same_front a.payload b.payload _ _ long fields.1 in

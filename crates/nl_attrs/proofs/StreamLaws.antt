@@ -107,6 +107,7 @@ takes_found b bytes start taken n fault m same free found =
     record {
       message = found.message;
       front = front ∙ ap (λ (x : List ℕ). spelled m ++ x) (drop-drop n start bytes);
+      long = rw (← found.count) found.long;
       count = ap (λ (k : ℕ). taken + k) found.count;
       before = free;
       after = free;

@@ -161,5 +161,6 @@ IsRefusal held next_faults.OutOfMemory = Unit {0}
 pub record TakesMessage (held : List ℕ) (m : Msg) (n : ℕ) : Type 0 where
   pub message : IsMsg m
   pub count : n ≡ length (spelled m)
+  pub long : 20 ≤ n
   pub within : n ≤ length held
   pub front : held ≡ spelled m ++ drop n held

@@ -1,5 +1,5 @@
 -- The messages of a stream, and what a decoder has done with the bytes that it was fed.
-use Rattle.std.specs.Prelude.{◌≡◌, ℕ, ◌+◌, ◌<◌, ◌⊎◌, List, [], ◌∷◌, ◌++◌, length, All, Option, Some, None, MatchOption, Result, Ok, Err}
+use Rattle.std.specs.Prelude.{◌≡◌, ℕ, ◌+◌, ◌<◌, ◌≤◌, ◌⊎◌, List, [], ◌∷◌, ◌++◌, length, All, Option, Some, None, MatchOption, Result, Ok, Err}
 use Rattle.nl_attrs.specs.Messages.{IsMsg, spelled, all_spelled}
 use Rattle.nl_attrs.specs.Faults.{IsFault, IsUndecided}
 use Rattle.nl_attrs.specs.declared.message.Msg.{Msg}
@@ -32,10 +32,11 @@ held_with (Some fault) held piece = held
 abbrev pub with_piece : Decoding → List ℕ → Decoding
 with_piece d piece = record { held = held_with d.fault d.held piece; taken = d.taken; fault = d.fault }
 
--- The message stood at the front and was taken.
+-- The message stood at the front and was taken. Each has at least 20 bytes, so asking for the next one ends.
 pub record Takes (old new : Decoding) (m : Msg) : Type 0 where
   pub message : IsMsg m
   pub front : old.held ≡ spelled m ++ new.held
+  pub long : 20 ≤ length (spelled m)
   pub count : new.taken ≡ old.taken + length (spelled m)
   pub before : old.fault ≡ None
   pub after : new.fault ≡ None

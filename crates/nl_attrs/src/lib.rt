@@ -22,3 +22,6 @@ pub use laws::{one_spelling, one_stream, one_verdict, reads_back};
 pub use lists::{AttrList, MsgList};
 pub use message::Msg;
 pub use message_writer::encode;
+
+#[cfg(test)]
+mod tests;
