@@ -1,12 +1,11 @@
 -- No spelling begins another: numbers and attributes.
-use Rattle.std.proofs.Common.{◌≡◌, ℕ, ◌+◌, ◌-◌, ◌*◌, ◌/◌, ◌^◌, ◌<◌, ◌≤◌, Bool, true, false, List, [], ◌∷◌, ◌++◌, length, take, drop, replicate, refl, sym, ap, ◌∙◌, append_assoc, arith}
+use Rattle.std.proofs.Common.{◌≡◌, ℕ, ◌+◌, ◌^◌, ◌<◌, Bool, true, false, List, ◌++◌, length, take, drop, replicate, refl, sym, ap, ◌∙◌, append_assoc, arith}
 use Rattle.std.specs.Int.{w16, w32, from_le_bytes}
-use Rattle.std.proofs.lemmas.List.{take_at, drop_at, length-replicate}
+use Rattle.std.proofs.lemmas.List.{take_at, drop_at}
 use Rattle.std.proofs.lemmas.Nat.{from_le_bytes-to_le_bytes_2, from_le_bytes-to_le_bytes_4}
 use Rattle.nl_attrs.specs.Endian.{le16, le32}
 use Rattle.nl_attrs.specs.Attributes.{IsAttr, padding, kind_field, attr_bytes}
 use Rattle.nl_attrs.specs.declared.attr.Attr.{Attr}
-use Rattle.nl_attrs.proofs.Lengths.{length-le16, length-le32}
 
 pub same_front : (p q r s : List ℕ) → length p ≡ length q → p ++ r ≡ q ++ s → (p ≡ q) × (r ≡ s)
 same_front p q r s len e =
@@ -34,9 +33,12 @@ kind_field-same j k false false j_fits k_fits e = (omega arith, refl)
 kind_field-same j k true false j_fits k_fits e = absurd (omega arith)
 kind_field-same j k false true j_fits k_fits e = absurd (omega arith)
 
--- what stands from the payload on, and from the kind on
+-- the padding, and what stands from the payload on and from the kind on
+abbrev zeros_of : Attr → List ℕ
+zeros_of a = replicate (padding (length a.payload)) 0
+
 abbrev from_payload : Attr → List ℕ → List ℕ
-from_payload a r = a.payload ++ (replicate (padding (length a.payload)) 0 ++ r)
+from_payload a r = a.payload ++ (zeros_of a ++ r)
 
 abbrev from_kind : Attr → List ℕ → List ℕ
 from_kind a r = le16 (kind_field a.kind a.nested) ++ from_payload a r
@@ -57,7 +59,7 @@ attr-apart a b r s fits_a fits_b e =
     let fields = le16-apart (kind_field a.kind a.nested) (kind_field b.kind b.nested) (from_payload a r) (from_payload b s) (kind_field-lt a.kind a.nested fits_a.kind) (kind_field-lt b.kind b.nested fits_b.kind) lengths.1 in
     let kinds = kind_field-same a.kind b.kind a.nested b.nested fits_a.kind fits_b.kind fields.0 in
     let long : length a.payload ≡ length b.payload = omega (arith, lengths.0) in
-    let payloads = same_front a.payload b.payload _ _ long fields.1 in
-    let zeros : length (replicate (padding (length a.payload)) 0) ≡ length (replicate (padding (length b.payload)) 0) = ap (λ (k : ℕ). length {A = ℕ} (replicate (padding k) 0)) long in
-    let rests = same_front _ _ r s zeros payloads.1 in
+    let payloads = same_front a.payload b.payload (zeros_of a ++ r) (zeros_of b ++ s) long fields.1 in
+    let zeros : length (zeros_of a) ≡ length (zeros_of b) = ap (λ (k : ℕ). length {A = ℕ} (replicate (padding k) 0)) long in
+    let rests = same_front (zeros_of a) (zeros_of b) r s zeros payloads.1 in
     (same_attr a b kinds.0 kinds.1 payloads.0, rests.1)

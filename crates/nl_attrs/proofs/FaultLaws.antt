@@ -1,9 +1,9 @@
 -- Where a message stands there is no fault, a fault is one, and it stays.
-use Rattle.std.proofs.Common.{◌≡◌, ℕ, ◌+◌, ◌-◌, ◌*◌, ◌/◌, ◌%◌, ◌^◌, ◌<◌, ◌≤◌, List, [], ◌∷◌, ◌++◌, length, take, drop, Option, Some, None, refl, sym, ap, subst, ◌∙◌, inl, inr, append_assoc, arith}
+use Rattle.std.proofs.Common.{◌≡◌, ℕ, ◌+◌, ◌≤◌, List, ◌++◌, length, Option, Some, None, refl, sym, ap, subst, ◌∙◌, inl, inr, arith}
 use Rattle.std.proofs.lemmas.List.{length-append, take-append-le}
-use Rattle.nl_attrs.specs.Endian.{u16_at, u32_at}
+use Rattle.nl_attrs.specs.Endian.{u16_at}
 use Rattle.nl_attrs.specs.Messages.{IsMsg, FitsBody, spelled, body_of, type_of}
-use Rattle.nl_attrs.specs.Faults.{length_fault, type_fault, length_at, type_at, body_at, IsGoodHead, IsLengthFault, IsTypeFault, IsBodyFault, IsBadBody, IsFault, IsBegun, IsUndecided}
+use Rattle.nl_attrs.specs.Faults.{length_at, type_at, body_at, IsBadBody, IsFault, IsUndecided}
 use Rattle.nl_attrs.specs.declared.fault.AttrFault.{AttrFault}
 use Rattle.nl_attrs.specs.declared.fault.AttrFault.TheVariants.{BadAttr}
 use Rattle.nl_attrs.specs.declared.message.Msg.{Msg}
@@ -61,10 +61,10 @@ one_bad_body body j k one other =
     elim one [
       | inl r ↦ elim other [ inl s ↦ r.1 ∙ sym s.1 | inr s ↦ absurd (r.0 s.0) ]
       | inr r ↦
-        elim other [
-          | inl s ↦ absurd (s.0 r.0)
-          | inr s ↦ r.1.2 ∙ ap (λ (n : ℕ). 20 + n) (one_place _ r.1.0 s.1.0 r.1.1 s.1.1) ∙ sym s.1.2
-        ]
+          elim other [
+            | inl s ↦ absurd (s.0 r.0)
+            | inr s ↦ r.1.2 ∙ ap (λ (n : ℕ). 20 + n) (one_place _ r.1.0 s.1.0 r.1.1 s.1.1) ∙ sym s.1.2
+          ]
     ]
 
 same_some : {A : Type 0} (o : Option A) (x y : A) → o ≡ Some x → o ≡ Some y → x ≡ y
@@ -77,23 +77,23 @@ pub one_fault : (b : List ℕ) (f g : AttrFault) → IsFault b f → IsFault b g
 one_fault b f g one other =
     elim one [
       | inl r ↦
-        elim other [
-          | inl s ↦ same_some _ f g r.bad s.bad
-          | inr (inl s) ↦ absurd (some_none _ f r.bad s.good_length)
-          | inr (inr s) ↦ absurd (some_none _ f r.bad s.good_length)
-        ]
+          elim other [
+            | inl s ↦ same_some _ f g r.bad s.bad
+            | inr (inl s) ↦ absurd (some_none _ f r.bad s.good_length)
+            | inr (inr s) ↦ absurd (some_none _ f r.bad s.good_length)
+          ]
       | inr (inl r) ↦
-        elim other [
-          | inl s ↦ absurd (some_none _ g s.bad r.good_length)
-          | inr (inl s) ↦ same_some _ f g r.bad s.bad
-          | inr (inr s) ↦ absurd (some_none _ f r.bad s.good_type)
-        ]
+          elim other [
+            | inl s ↦ absurd (some_none _ g s.bad r.good_length)
+            | inr (inl s) ↦ same_some _ f g r.bad s.bad
+            | inr (inr s) ↦ absurd (some_none _ f r.bad s.good_type)
+          ]
       | inr (inr r) ↦
-        elim other [
-          | inl s ↦ absurd (some_none _ g s.bad r.good_length)
-          | inr (inl s) ↦ absurd (some_none _ g s.bad r.good_type)
-          | inr (inr s) ↦ r.is ∙ ap BadAttr (one_bad_body _ r.place s.place r.bad s.bad) ∙ sym s.is
-        ]
+          elim other [
+            | inl s ↦ absurd (some_none _ g s.bad r.good_length)
+            | inr (inl s) ↦ absurd (some_none _ g s.bad r.good_type)
+            | inr (inr s) ↦ r.is ∙ ap BadAttr (one_bad_body _ r.place s.place r.bad s.bad) ∙ sym s.is
+          ]
     ]
 
 -- what is undecided shows no fault
@@ -101,17 +101,17 @@ pub undecided_no_fault : (b : List ℕ) (f : AttrFault) → IsUndecided b → Is
 undecided_no_fault b f undecided faulty =
     elim undecided [
       | inl few ↦
-        elim faulty [
-          | inl r ↦ (let seen = r.seen in omega arith)
-          | inr (inl r) ↦ (let seen = r.seen in omega arith)
-          | inr (inr r) ↦ (let whole = r.whole in let long = (length_good _ r.good_length).0 in omega arith)
-        ]
+          elim faulty [
+            | inl r ↦ (let seen = r.seen in omega arith)
+            | inr (inl r) ↦ (let seen = r.seen in omega arith)
+            | inr (inr r) ↦ (let whole = r.whole in let long = (length_good _ r.good_length).0 in omega arith)
+          ]
       | inr begun ↦
-        elim faulty [
-          | inl r ↦ some_none _ f r.bad begun.good_length
-          | inr (inl r) ↦ some_none _ f r.bad (begun.good_type r.seen)
-          | inr (inr r) ↦ (let whole = r.whole in let left = begun.left in omega arith)
-        ]
+          elim faulty [
+            | inl r ↦ some_none _ f r.bad begun.good_length
+            | inr (inl r) ↦ some_none _ f r.bad (begun.good_type r.seen)
+            | inr (inr r) ↦ (let whole = r.whole in let left = begun.left in omega arith)
+          ]
     ]
 
 -- ---- a fault stays, whatever follows
@@ -128,24 +128,24 @@ fault_stays b more f faulty =
     elim faulty [
       | inl r ↦ (let seen = r.seen in inl (record { seen = omega arith; bad = rw (length_at-more b more seen) r.bad }))
       | inr (inl r) ↦
-        (let seen = r.seen in
-        let four : 4 ≤ length b = omega arith in
-        let len = length_at-more b more four in
-        let kind = type_at-more b more seen in
-        inr (inl (record { seen = omega arith; good_length = rw len r.good_length; bad = rw (len, kind) r.bad })))
+          (let seen = r.seen in
+          let four : 4 ≤ length b = omega arith in
+          let len = length_at-more b more four in
+          let kind = type_at-more b more seen in
+          inr (inl (record { seen = omega arith; good_length = rw len r.good_length; bad = rw (len, kind) r.bad })))
       | inr (inr r) ↦
-        (let whole = r.whole in
-        let long = (length_good _ r.good_length).0 in
-        let len = length_at-more b more (omega arith) in
-        let kind = type_at-more b more (omega arith) in
-        let body : body_at (b ++ more) ≡ body_at b = rw (len, take-append-le (length_at b) b more whole) refl in
-        inr (inr (record {
-          good_length = rw len r.good_length;
-          good_type = rw (len, kind) r.good_type;
-          whole = omega arith;
-          family = rw kind r.family;
-          place = r.place;
-          bad = rw body r.bad;
-          is = r.is;
-        })))
+          (let whole = r.whole in
+          let long = (length_good _ r.good_length).0 in
+          let len = length_at-more b more (omega arith) in
+          let kind = type_at-more b more (omega arith) in
+          let body : body_at (b ++ more) ≡ body_at b = rw (len, take-append-le (length_at b) b more whole) refl in
+          inr (inr (record {
+            good_length = rw len r.good_length;
+            good_type = rw (len, kind) r.good_type;
+            whole = omega arith;
+            family = rw kind r.family;
+            place = r.place;
+            bad = rw body r.bad;
+            is = r.is;
+          })))
     ]

@@ -1,9 +1,8 @@
 -- The message at the front of bytes, and the bytes of that message alone.
-use Rattle.std.proofs.Common.{◌≡◌, ℕ, ◌+◌, ◌-◌, ◌*◌, ◌/◌, ◌%◌, ◌<◌, ◌≤◌, List, [], ◌∷◌, ◌++◌, length, take, drop, None, Some, refl, sym, ap, subst, ◌∙◌, inl, inr, arith}
+use Rattle.std.proofs.Common.{◌≡◌, ℕ, ◌≤◌, List, length, take, drop, refl, sym, ap, ◌∙◌, inr, arith}
 use Rattle.std.proofs.lemmas.List.{length-take, take-append-drop}
 use Rattle.nl_attrs.specs.Endian.{u16_at, u32_at}
-use Rattle.nl_attrs.specs.Faults.{IsGoodHead, IsGoodSoFar, IsWhole, IsBadBody, IsBodyFault, IsBodyRefusal, IsRefusal, length_at, type_at, body_at, length_fault, type_fault}
-use Rattle.nl_attrs.specs.declared.fault.AttrFault.{AttrFault}
+use Rattle.nl_attrs.specs.Faults.{IsGoodSoFar, IsWhole, IsBodyRefusal, IsRefusal, length_at, type_at}
 use Rattle.nl_attrs.specs.declared.fault.AttrFault.TheVariants.{Truncated, BadLength, Overlong, BadType, BadAttr}
 use Rattle.nl_attrs.specs.declared.fault.NextFault.{NextFault}
 use Rattle.nl_attrs.specs.declared.fault.NextFault.TheVariants.{Bad, OutOfMemory}

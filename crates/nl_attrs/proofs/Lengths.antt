@@ -1,9 +1,9 @@
 -- How long the pieces are.
-use Rattle.std.proofs.Common.{◌≡◌, ℕ, ◌+◌, ◌-◌, ◌*◌, ◌/◌, ◌≤◌, List, [], ◌∷◌, ◌++◌, length, replicate, refl, arith}
+use Rattle.std.proofs.Common.{◌≡◌, ℕ, ◌+◌, length, refl, arith}
 use Rattle.std.proofs.lemmas.List.{length-append, length-replicate}
 use Rattle.nl_attrs.specs.Endian.{le16, le32}
-use Rattle.nl_attrs.specs.Attributes.{aligned, padding, kind_field, attr_bytes}
-use Rattle.nl_attrs.specs.Messages.{head_bytes, spelled, body_of, type_of, flags_of, seq_of, pid_of}
+use Rattle.nl_attrs.specs.Attributes.{aligned, attr_bytes}
+use Rattle.nl_attrs.specs.Messages.{head_bytes, spelled, body_of}
 use Rattle.nl_attrs.specs.declared.attr.Attr.{Attr}
 use Rattle.nl_attrs.specs.declared.message.Msg.{Msg}
 

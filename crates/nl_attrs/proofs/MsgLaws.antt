@@ -1,10 +1,10 @@
 -- A message's spelling is whole and shows no fault.
-use Rattle.std.proofs.Common.{◌≡◌, ℕ, zero, suc, ◌+◌, ◌-◌, ◌*◌, ◌/◌, ◌%◌, ◌^◌, ◌<◌, ◌≤◌, Bool, true, false, cond, ◌&&◌, ◌||◌, not, eqb, ltb, leb, List, [], ◌∷◌, ◌++◌, length, take, drop, Option, Some, None, refl, sym, ap, subst, ◌∙◌, inl, inr, append_assoc, arith}
+use Rattle.std.proofs.Common.{◌≡◌, ℕ, ◌+◌, ◌%◌, ◌≤◌, false, leb, List, [], ◌∷◌, ◌++◌, length, None, refl, sym, ap, ◌∙◌, arith}
 use Rattle.std.specs.Int.{w32, cast_unsigned}
 use Rattle.std.proofs.lemmas.Bool.{eq-eqb, ne_eqb, le-ltb, and_right}
 use Rattle.std.proofs.lemmas.List.{length-append, take_at, drop_at}
-use Rattle.nl_attrs.specs.Endian.{le16, le32, u16_at, u32_at}
-use Rattle.nl_attrs.specs.Attributes.{aligned, attr_bytes, attrs_bytes}
+use Rattle.nl_attrs.specs.Endian.{le32, u16_at, u32_at}
+use Rattle.nl_attrs.specs.Attributes.{attr_bytes, attrs_bytes}
 use Rattle.nl_attrs.specs.Messages.{IsMsg, FitsBody, head_bytes, spelled, body_of, type_of, flags_of, seq_of, pid_of}
 use Rattle.nl_attrs.specs.Faults.{length_fault, type_fault, length_at, type_at, body_at, IsGoodHead}
 use Rattle.nl_attrs.specs.declared.attr.Attr.{Attr}

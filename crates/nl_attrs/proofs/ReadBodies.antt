@@ -1,19 +1,18 @@
 -- Heads and bodies of messages are spelled as they were read.
-use Rattle.std.proofs.Common.{◌≡◌, ℕ, zero, suc, ◌+◌, ◌-◌, ◌*◌, ◌^◌, ◌<◌, ◌≤◌, List, [], ◌∷◌, ◌++◌, length, get_or, take, drop, All, refl, sym, ap, subst, ◌∙◌, append_assoc, arith}
+use Rattle.std.proofs.Common.{◌≡◌, ℕ, ◌+◌, ◌^◌, ◌<◌, ◌≤◌, List, [], ◌∷◌, ◌++◌, length, get_or, drop, All, sym, ap, ◌∙◌, append_assoc, arith}
 use Rattle.std.specs.Prelude.{ℤ, FitsSigned}
 use Rattle.std.specs.Int.{w32, cast_unsigned, cast_signed}
 use Rattle.std.proofs.Math.Facts.{sfits_to_z}
 use Rattle.std.proofs.lemmas.Int.{of_z-to_z}
-use Rattle.std.proofs.lemmas.List.{length-append, append-nil, drop_all, length-drop}
+use Rattle.std.proofs.lemmas.List.{append-nil, drop_all, length-drop}
 use Rattle.nl_attrs.specs.Endian.{le16, le32, u16_at, u32_at}
 use Rattle.nl_attrs.specs.Attributes.{IsAttr, attrs_bytes}
-use Rattle.nl_attrs.specs.Messages.{IsMsg, head_bytes, spelled, body_of}
+use Rattle.nl_attrs.specs.Messages.{IsMsg, head_bytes, spelled}
 use Rattle.nl_attrs.specs.declared.attr.Attr.{Attr}
-use Rattle.nl_attrs.specs.declared.message.Msg.{Msg}
 use Rattle.nl_attrs.specs.declared.message.Msg.TheVariants.{Generic, Error, Done}
 use Rattle.nl_attrs.proofs.Lengths.{length-spelled}
 use Rattle.nl_attrs.proofs.Places.{IsBytes, le16-u16_at, le32-u32_at, u32_at-lt, cut}
-use Rattle.nl_attrs.proofs.Written.{done_bytes, error_bytes, done_is, error_is}
+use Rattle.nl_attrs.proofs.Written.{done_bytes, error_bytes}
 
 five_parts : (b p q r s t b1 b2 b3 b4 b5 : List ℕ) → b ≡ p ++ b1 → b1 ≡ q ++ b2 → b2 ≡ r ++ b3 → b3 ≡ s ++ b4 → b4 ≡ t ++ b5 → b ≡ (p ++ (q ++ (r ++ (s ++ t)))) ++ b5
 five_parts b p q r s t b1 b2 b3 b4 b5 e1 e2 e3 e4 e5 = rw (e1, e2, e3, e4, e5) (simp append_assoc)
@@ -84,5 +83,5 @@ read_generic_is family flags seq pid body attrs long zero_field rest family_high
       pid = pid_fits;
       body = (family_high, family_fits, each);
       short =
-        rw length-spelled (let same = ap length (generic_parts body attrs long zero_field rest) in omega (arith, same));
+          rw length-spelled (let same = ap length (generic_parts body attrs long zero_field rest) in omega (arith, same));
     }

@@ -1,9 +1,7 @@
 -- A stream has one list of messages, and a decoder gives it.
-use Rattle.std.proofs.Common.{◌≡◌, ℕ, ◌+◌, ◌-◌, ◌<◌, ◌≤◌, false, List, [], ◌∷◌, ◌++◌, length, take, drop, All, is_some, Option, Some, None, refl, sym, ap, subst, ◌∙◌, inl, inr, append_assoc, arith}
+use Rattle.std.proofs.Common.{◌≡◌, ℕ, ◌+◌, ◌-◌, ◌≤◌, false, List, [], ◌∷◌, ◌++◌, length, take, drop, All, is_some, Option, Some, None, refl, sym, ap, subst, ◌∙◌, inl, append_assoc, arith}
 use Rattle.std.specs.Prelude.{MatchOption}
-use Rattle.std.specs.List.{flat_map, AllByRecursion}
 use Rattle.std.proofs.lemmas.List.{append-nil, length-append, flat_map_more, take_rest, drop-drop, drop-append-le}
-use Rattle.std.proofs.lemmas.List.Concat.{flat_map-append}
 use Rattle.std.proofs.lemmas.List.Elements.{recursion_from_All, All-push}
 use Rattle.nl_attrs.specs.Messages.{IsMsg, spelled, all_spelled}
 use Rattle.nl_attrs.specs.Faults.{IsFault, IsUndecided, TakesMessage}
@@ -47,7 +45,7 @@ fault_ends stream more ms f messages =
     record {
       rest = messages.rest ++ more;
       joined =
-        ap (λ (x : List ℕ). x ++ more) messages.joined ∙ append_assoc (all_spelled ms) messages.rest more;
+          ap (λ (x : List ℕ). x ++ more) messages.joined ∙ append_assoc (all_spelled ms) messages.rest more;
       each = messages.each;
       last = fault_stays messages.rest more f messages.last;
     }
@@ -70,7 +68,7 @@ feed_step d d' piece fed given free held taken free' before =
     record {
       lost = [];
       joined =
-        ap (λ (x : List ℕ). x ++ piece) front ∙ append_assoc (all_spelled given) d.held piece ∙ ap (λ (x : List ℕ). all_spelled given ++ x) (sym held ∙ sym (append-nil d'.held));
+          ap (λ (x : List ℕ). x ++ piece) front ∙ append_assoc (all_spelled given) d.held piece ∙ ap (λ (x : List ℕ). all_spelled given ++ x) (sym held ∙ sym (append-nil d'.held));
       each = before.each;
       count = taken ∙ before.count;
       state = let P : Option AttrFault → Type 0 = λ o. MatchOption o (◌≡◌ {A = List ℕ} [] []) (IsFault d'.held) in subst P (sym free') refl;
@@ -93,10 +91,10 @@ give_step d d' m fed given takes before =
     record {
       lost = before.lost;
       joined =
-        before.joined ∙ ap (λ (x : List ℕ). all_spelled given ++ (x ++ before.lost)) takes.front ∙ ap (λ (x : List ℕ). all_spelled given ++ x) (append_assoc (spelled m) d'.held before.lost) ∙ sym (append_assoc (all_spelled given) (spelled m) (d'.held ++ before.lost)) ∙ ap (λ (x : List ℕ). x ++ (d'.held ++ before.lost)) spelt;
+          before.joined ∙ ap (λ (x : List ℕ). all_spelled given ++ (x ++ before.lost)) takes.front ∙ ap (λ (x : List ℕ). all_spelled given ++ x) (append_assoc (spelled m) d'.held before.lost) ∙ sym (append_assoc (all_spelled given) (spelled m) (d'.held ++ before.lost)) ∙ ap (λ (x : List ℕ). x ++ (d'.held ++ before.lost)) spelt;
       each = All-push IsMsg given m before.each takes.message;
       count =
-        takes.count ∙ ap (λ (n : ℕ). n + length (spelled m)) before.count ∙ sym (length-append (all_spelled given) (spelled m)) ∙ ap length spelt;
+          takes.count ∙ ap (λ (n : ℕ). n + length (spelled m)) before.count ∙ sym (length-append (all_spelled given) (spelled m)) ∙ ap length spelt;
       state = let P : Option AttrFault → Type 0 = λ o. MatchOption o (before.lost ≡ []) (IsFault d'.held) in subst P (sym takes.after) none;
     }
 

@@ -1,20 +1,16 @@
 -- What stands at the front of bytes is spelled as it was read.
-use Rattle.std.proofs.Common.{◌≡◌, ℕ, zero, suc, ◌+◌, ◌-◌, ◌*◌, ◌/◌, ◌%◌, ◌^◌, ◌<◌, ◌≤◌, Bool, true, false, ◌&&◌, eqb, leb, List, [], ◌∷◌, ◌++◌, length, get_or, take, drop, replicate, min, refl, sym, ap, ◌∙◌, append_assoc, arith}
-use Rattle.std.proofs.lemmas.Bool.{eqb-true, leb-true, leb-false}
-use Rattle.std.proofs.lemmas.List.{length-take, length-drop, take-append-drop, flat_map_more, append-nil, nil_from_length}
-use Rattle.nl_attrs.specs.Endian.{le16, le32, u16_at, u32_at}
+use Rattle.std.proofs.Common.{◌≡◌, ℕ, zero, suc, ◌+◌, ◌-◌, ◌%◌, ◌^◌, ◌<◌, ◌≤◌, Bool, true, false, eqb, leb, List, [], ◌∷◌, ◌++◌, length, take, drop, replicate, refl, sym, ap, ◌∙◌, append_assoc, arith}
+use Rattle.std.proofs.lemmas.Bool.{eqb-true, and_parts, leb-true, leb-false}
+use Rattle.std.proofs.lemmas.List.{length-take, length-drop, flat_map_more, append-nil, nil_from_length}
+use Rattle.nl_attrs.specs.Endian.{le16, u16_at}
 use Rattle.nl_attrs.specs.Attributes.{BeginsAttr, aligned, padding, padding_at, is_zero, bit14, kind_field, attr_bytes, attrs_bytes}
 use Rattle.nl_attrs.specs.declared.attr.Attr.{Attr}
 use Rattle.nl_attrs.proofs.Places.{IsBytes, IsBytes-part, le16-u16_at, cut}
 
-and_true : (p q : Bool) → (p && q) ≡ true → (p ≡ true) × (q ≡ true)
-and_true true q e = (refl, e)
-and_true false q e = absurd cc
-
 pub zeros_from_test : (bs : List ℕ) → is_zero bs ≡ true → bs ≡ replicate (length bs) 0
 zeros_from_test [] e = refl
 zeros_from_test (b ∷ bs) e =
-    let both = and_true (eqb b 0) (is_zero bs) e in
+    let both = and_parts (eqb b 0) (is_zero bs) e in
     let first : b ≡ 0 = eqb-true b 0 both.0 in
     let others = zeros_from_test bs both.1 in
     λ i. first i ∷ others i

@@ -1,19 +1,16 @@
 -- Steps of the writing loops.
-use Rattle.std.proofs.Common.{◌≡◌, ℕ, ◌+◌, ◌-◌, ◌*◌, ◌/◌, ◌^◌, ◌<◌, ◌≤◌, List, [], ◌∷◌, ◌++◌, length, min, get_or, take, drop, All, refl, sym, ap, ◌∙◌, inl, inr, append_assoc, arith}
+use Rattle.std.proofs.Common.{◌≡◌, ℕ, ◌+◌, ◌^◌, ◌<◌, ◌≤◌, List, [], ◌∷◌, ◌++◌, length, get_or, take, drop, All, refl, sym, ap, ◌∙◌, inl, inr, append_assoc, arith}
 use Rattle.std.specs.Prelude.{ℤ, FitsSigned}
 use Rattle.std.specs.Int.{w32, cast_unsigned}
-use Rattle.std.specs.List.{flat_map}
 use Rattle.std.proofs.lemmas.List.{length-append, append-nil, take-append-drop, drop_more, take_more}
 use Rattle.std.proofs.lemmas.List.Concat.{flat_map-append}
-use Rattle.std.proofs.lemmas.List.Elements.{All-get_or}
-use Rattle.nl_attrs.specs.Endian.{le16, le32}
-use Rattle.nl_attrs.specs.Attributes.{IsAttr, aligned, attr_bytes, attrs_bytes}
-use Rattle.nl_attrs.specs.Messages.{head_bytes, spelled, body_of, IsMsg}
-use Rattle.nl_attrs.specs.Faults.{IsShort, IsFirstLong, IsSizeFault, IsEncodeFault, IsTooLong}
+use Rattle.nl_attrs.specs.Endian.{le32}
+use Rattle.nl_attrs.specs.Attributes.{aligned, attr_bytes, attrs_bytes}
+use Rattle.nl_attrs.specs.Messages.{head_bytes, spelled, IsMsg}
+use Rattle.nl_attrs.specs.Faults.{IsShort, IsFirstLong, IsSizeFault, IsEncodeFault}
 use Rattle.nl_attrs.specs.declared.attr.Attr.{Attr}
 use Rattle.nl_attrs.specs.declared.fault.EncodeFault.{EncodeFault}
 use Rattle.nl_attrs.specs.declared.fault.EncodeFault.TheVariants.{Overlong, OutOfMemory}
-use Rattle.nl_attrs.specs.declared.message.Msg.{Msg}
 use Rattle.nl_attrs.specs.declared.message.Msg.TheVariants.{Generic, Error, Done}
 use Rattle.nl_attrs.proofs.Lengths.{length-le32, length-attr_bytes, length-spelled}
 
@@ -25,7 +22,7 @@ first_long_at attrs i a lt is short long =
       long = a;
       after = drop (i + 1) attrs;
       joined =
-        sym (take-append-drop i attrs) ∙ ap (λ (xs : List Attr). take i attrs ++ xs) (drop_more attrs i a lt ∙ ap (λ (x : Attr). x ∷ drop (i + 1) attrs) (sym is));
+          sym (take-append-drop i attrs) ∙ ap (λ (xs : List Attr). take i attrs ++ xs) (drop_more attrs i a lt ∙ ap (λ (x : Attr). x ∷ drop (i + 1) attrs) (sym is));
       others = short;
       above = long;
       is = refl;
@@ -82,7 +79,7 @@ size_fault (Overlong n) family flags seq pid cmd version attrs is =
     elim is [
       | inl long ↦ inl long
       | inr message ↦
-        let bytes : length (spelled (Generic family flags seq pid cmd version attrs)) ≡ 20 + length (attrs_bytes attrs) = rw length-spelled (omega arith) in
-        inr (message.0, rw bytes message.1)
+          let bytes : length (spelled (Generic family flags seq pid cmd version attrs)) ≡ 20 + length (attrs_bytes attrs) = rw length-spelled (omega arith) in
+          inr (message.0, rw bytes message.1)
     ]
 size_fault OutOfMemory family flags seq pid cmd version attrs is = tt

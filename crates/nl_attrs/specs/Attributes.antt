@@ -1,5 +1,5 @@
 -- Attributes, their one spelling, and where bytes aren't attributes.
-use Rattle.std.specs.Prelude.{◌≡◌, ℕ, ◌+◌, ◌-◌, ◌*◌, ◌/◌, ◌%◌, ◌<◌, ◌≤◌, ◌==◌, ◌⊎◌, Bool, true, false, List, [], ◌∷◌, ◌++◌, length, take, drop, replicate, All, if◌then◌else◌}
+use Rattle.std.specs.Prelude.{◌≡◌, ℕ, ◌+◌, ◌-◌, ◌*◌, ◌/◌, ◌%◌, ◌<◌, ◌≤◌, ◌==◌, ◌⊎◌, Bool, true, false, List, ◌++◌, length, take, drop, replicate, All}
 use Rattle.std.specs.List.{flat_map, list_all}
 use Rattle.nl_attrs.specs.Endian.{le16, u16_at}
 use Rattle.nl_attrs.specs.declared.attr.Attr.{Attr}

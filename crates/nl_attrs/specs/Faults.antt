@@ -1,8 +1,8 @@
 -- What is wrong with the bytes at the front of a stream, and when it is judged.
-use Rattle.std.specs.Prelude.{◌≡◌, ◌≢◌, ℕ, ◌+◌, ◌*◌, ◌%◌, ◌<◌, ◌≤◌, ◌==◌, ◌⊎◌, ◌&&◌, ◌||◌, not, nat_lt, nat_le, List, [], ◌∷◌, ◌++◌, length, take, drop, min, All, Option, Some, None, Result, Ok, Err, if◌then◌else◌, slice_index_or, ◌^◌, ◌-◌}
+use Rattle.std.specs.Prelude.{◌≡◌, ◌≢◌, ℕ, ◌+◌, ◌%◌, ◌<◌, ◌≤◌, ◌==◌, ◌⊎◌, ◌&&◌, ◌||◌, not, nat_lt, nat_le, List, ◌∷◌, ◌++◌, length, take, drop, min, All, Option, Some, None, Result, Ok, Err, if◌then◌else◌, ◌^◌, ◌-◌}
 use Rattle.nl_attrs.specs.Endian.{u16_at, u32_at}
 use Rattle.nl_attrs.specs.Attributes.{IsFirstBreach, attrs_bytes}
-use Rattle.nl_attrs.specs.Messages.{IsMsg, spelled, attrs_in, body_of}
+use Rattle.nl_attrs.specs.Messages.{IsMsg, spelled, attrs_in}
 use Rattle.nl_attrs.specs.declared.attr.Attr.{Attr}
 use Rattle.nl_attrs.specs.declared.message.Msg.{Msg}
 use Rattle.nl_attrs.specs.declared.fault.AttrFault.{AttrFault}

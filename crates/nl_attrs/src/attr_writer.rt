@@ -19,7 +19,11 @@ fn kind_field(attr: &Attr) -> u16
     requires { attr.now.kind < 16384 }
     ensures { result ≡ kind_field attr.now.kind attr.now.nested }
 {
-    if attr.nested { attr.kind + NESTED } else { attr.kind }
+    if attr.nested {
+        attr.kind + NESTED
+    } else {
+        attr.kind
+    }
 }
 
 /// Writes zero bytes behind so many bytes, up to a multiple of 4.

@@ -110,20 +110,48 @@ pub fn encode(alloc: Global, m: &Msg) -> Result<Bytes, EncodeFault>
     ensures overlong { IfErr result (IsEncodeFault m.now) }
 {
     match m {
-        Msg::Generic { family, flags, seq, pid, cmd, version, attrs } => {
+        Msg::Generic {
+            family,
+            flags,
+            seq,
+            pid,
+            cmd,
+            version,
+            attrs,
+        } => {
             let attrs = attrs.as_slice();
             let length = generic_length(attrs)?;
             let mut out = Bytes::new(alloc);
-            put_head(&mut out, &Head { length, kind: *family, flags: *flags, seq: *seq, pid: *pid })?;
+            put_head(
+                &mut out,
+                &Head {
+                    length,
+                    kind: *family,
+                    flags: *flags,
+                    seq: *seq,
+                    pid: *pid,
+                },
+            )?;
             out.append(&[*cmd, *version, 0, 0])?;
             put_attrs(&mut out, attrs)?;
             Ok(out)
         }
-        Msg::Error { flags, seq, pid, code, head } => {
+        Msg::Error {
+            flags,
+            seq,
+            pid,
+            code,
+            head,
+        } => {
             let bytes = error_bytes(alloc, *flags, *seq, *pid, *code, head)?;
             Ok(bytes)
         }
-        Msg::Done { flags, seq, pid, code } => {
+        Msg::Done {
+            flags,
+            seq,
+            pid,
+            code,
+        } => {
             let bytes = done_bytes(alloc, *flags, *seq, *pid, *code)?;
             Ok(bytes)
         }

@@ -99,10 +99,28 @@ fn streams_of_messages(rt: HostRuntime) -> Result<(), Fail> {
     let alloc = rt.alloc();
     assert_stream(&rt, alloc, &[], 0, Ok(()))?;
     assert_stream(&rt, alloc, &REQUESTS, 48, Ok(()))?;
-    assert_stream(&rt, alloc, &REQUESTS[..47], 28, Err(AttrFault::Truncated(19)))?;
-    assert_stream(&rt, alloc, &REQUESTS[..31], 28, Err(AttrFault::Truncated(3)))?;
+    assert_stream(
+        &rt,
+        alloc,
+        &REQUESTS[..47],
+        28,
+        Err(AttrFault::Truncated(19)),
+    )?;
+    assert_stream(
+        &rt,
+        alloc,
+        &REQUESTS[..31],
+        28,
+        Err(AttrFault::Truncated(3)),
+    )?;
     assert_stream(&rt, alloc, &ANSWERS, 56, Ok(()))?;
-    assert_stream(&rt, alloc, &ANSWERS[..55], 36, Err(AttrFault::Truncated(19)))?;
+    assert_stream(
+        &rt,
+        alloc,
+        &ANSWERS[..55],
+        36,
+        Err(AttrFault::Truncated(19)),
+    )?;
     Ok(())
 }
 
@@ -119,11 +137,15 @@ fn streams_with_faults(rt: HostRuntime) -> Result<(), Fail> {
         (&[0x14, 0, 0, 0, 1, 0], AttrFault::BadType(1)),
         (&[0x14, 0, 0, 0, 0x0f, 0], AttrFault::BadType(15)),
         (
-            &[0x18, 0, 0, 0, 0x20, 0, 5, 0, 1, 0, 0, 0, 0, 0, 0, 0, 0x1f, 0, 0, 0, 3, 0, 0x21, 0],
+            &[
+                0x18, 0, 0, 0, 0x20, 0, 5, 0, 1, 0, 0, 0, 0, 0, 0, 0, 0x1f, 0, 0, 0, 3, 0, 0x21, 0,
+            ],
             AttrFault::BadAttr(20),
         ),
         (
-            &[0x14, 0, 0, 0, 0x20, 0, 5, 0, 1, 0, 0, 0, 0, 0, 0, 0, 0x1f, 0, 1, 0],
+            &[
+                0x14, 0, 0, 0, 0x20, 0, 5, 0, 1, 0, 0, 0, 0, 0, 0, 0, 0x1f, 0, 1, 0,
+            ],
             AttrFault::BadAttr(18),
         ),
     ];
@@ -168,7 +190,10 @@ fn attributes(rt: HostRuntime) -> Result<(), Fail> {
     if let Some(attr) = list.get(0) {
         assert_eq!(rt; (attr.kind, attr.nested), (1, true));
         assert_eq!(rt; attr.payload.as_slice(), [5, 0, 2, 0, 7].as_slice());
-        assert_eq!(rt; attrs_of(alloc, attr.payload.as_slice()).err(), Some(AttrsFault::BadAttr(0)));
+        assert_eq!(rt;
+            attrs_of(alloc, attr.payload.as_slice()).err(),
+            Some(AttrsFault::BadAttr(0))
+        );
     }
     let table: [(&[u8], u64); 6] = [
         // Bit 14 of the kind, a length of 3, and one past the end with its padding.
@@ -181,7 +206,10 @@ fn attributes(rt: HostRuntime) -> Result<(), Fail> {
         (&[0], 0),
     ];
     for (payload, place) in table {
-        assert_eq!(rt; attrs_of(alloc, payload).err(), Some(AttrsFault::BadAttr(place)));
+        assert_eq!(rt;
+            attrs_of(alloc, payload).err(),
+            Some(AttrsFault::BadAttr(place))
+        );
     }
     Ok(())
 }
@@ -221,7 +249,10 @@ fn limits(rt: HostRuntime) -> Result<(), Fail> {
     let table = [(65_513, 65_540), (65_531, 65_556), (65_532, 65_532)];
     for (length, overlong) in table {
         let message = long_message(alloc, length)?;
-        assert_eq!(rt; encode(alloc, &message).err(), Some(EncodeFault::Overlong(overlong)));
+        assert_eq!(rt;
+            encode(alloc, &message).err(),
+            Some(EncodeFault::Overlong(overlong))
+        );
     }
     Ok(())
 }

@@ -1,7 +1,6 @@
-use Rattle.std.proofs.Common.{◌≡◌, ℕ, ◌+◌, ◌-◌, take, drop, leb, refl, sym, ◌∙◌, arith, ap}
+use Rattle.std.proofs.Common.{◌≡◌, leb, refl, ◌∙◌, arith}
 use Rattle.std.proofs.lemmas.List.{take_rest}
-use Rattle.nl_attrs.specs.Attributes.{aligned, attr_bytes, bit14, kind_field}
-use Rattle.nl_attrs.specs.Endian.{u16_at}
+use Rattle.nl_attrs.specs.Attributes.{kind_field}
 use Rattle.nl_attrs.proofs.Places.{IsBytes}
 use Rattle.nl_attrs.proofs.Taken.{attr_taken, kind_field_of, u16_at-lt}
 use Rattle.nl_attrs.proofs.attr_reader.attr_at.Goals as goal

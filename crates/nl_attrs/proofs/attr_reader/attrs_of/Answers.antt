@@ -1,7 +1,7 @@
-use Rattle.std.proofs.Common.{rules, ◌≡◌, ℕ, ◌+◌, ◌<◌, ◌++◌, [], ◌∷◌, length, All, refl, sym, ap, ◌∙◌, arith}
-use Rattle.std.proofs.lemmas.List.{append-nil, length-append, nil_from_length}
+use Rattle.std.proofs.Common.{rules, length, refl, sym, ap, ◌∙◌, arith}
+use Rattle.std.proofs.lemmas.List.{length-append}
 use Rattle.std.proofs.lemmas.List.Elements.{All-push}
-use Rattle.nl_attrs.specs.Attributes.{IsAttr, attr_bytes, attrs_bytes}
+use Rattle.nl_attrs.specs.Attributes.{IsAttr, attr_bytes}
 use Rattle.nl_attrs.proofs.AttrLaws.{no_breach, one_list}
 use Rattle.nl_attrs.proofs.Lengths.{length-attr_bytes}
 use Rattle.nl_attrs.proofs.Taken.{one_more, at_end}

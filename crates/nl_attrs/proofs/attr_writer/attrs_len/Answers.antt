@@ -1,4 +1,4 @@
-use Rattle.std.proofs.Common.{◌≡◌, arith}
+use Rattle.std.proofs.Common.{arith}
 use Rattle.nl_attrs.proofs.Written.{length-attrs_more}
 use Rattle.nl_attrs.proofs.attr_writer.attrs_len.Goals as goal
 

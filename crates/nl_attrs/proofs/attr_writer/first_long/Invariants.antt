@@ -1,4 +1,4 @@
-use Rattle.std.proofs.Common.{ℕ, ◌<◌, take, All}
+use Rattle.std.proofs.Common.{take, All}
 use Rattle.nl_attrs.specs.Faults.{IsShort}
 use Rattle.nl_attrs.proofs.attr_writer.first_long.Given as goal
 

@@ -1,5 +1,4 @@
-use Rattle.std.proofs.Common.{◌≡◌, ℕ, List, Option, subst}
-use Rattle.std.specs.List.{flat_map}
+use Rattle.std.proofs.Common.{ℕ, List, subst}
 use Rattle.nl_attrs.specs.Streams.{AreMessages}
 use Rattle.nl_attrs.proofs.StreamLaws.{one_stream, longest_list, goes_on, fault_ends}
 use Rattle.nl_attrs.proofs.laws.one_stream.Goals as goal

@@ -1,4 +1,4 @@
-use Rattle.std.proofs.Common.{◌<◌, ◌^◌, arith}
+use Rattle.std.proofs.Common.{arith}
 use Rattle.nl_attrs.proofs.Places.{IsBytes}
 use Rattle.nl_attrs.proofs.ReadBodies.{done_taken, code_fits, code_as_read}
 use Rattle.nl_attrs.proofs.Written.{done_is}

@@ -1,5 +1,5 @@
-use Rattle.std.proofs.Common.{◌≡◌, ◌<◌, ◌^◌, length, drop, refl, arith}
-use Rattle.std.proofs.lemmas.List.{take_rest, length-drop}
+use Rattle.std.proofs.Common.{arith}
+use Rattle.std.proofs.lemmas.List.{take_rest}
 use Rattle.nl_attrs.proofs.Places.{IsBytes}
 use Rattle.nl_attrs.proofs.ReadBodies.{error_taken, code_fits, code_as_read}
 use Rattle.nl_attrs.proofs.Written.{error_is}

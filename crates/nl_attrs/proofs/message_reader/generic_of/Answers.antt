@@ -1,7 +1,5 @@
-use Rattle.std.proofs.Common.{◌≡◌, ◌<◌, ◌^◌, length, drop, refl, sym, ◌∙◌, arith}
+use Rattle.std.proofs.Common.{sym, ◌∙◌, arith}
 use Rattle.std.proofs.lemmas.List.{take_rest}
-use Rattle.nl_attrs.specs.Attributes.{attrs_bytes}
-use Rattle.nl_attrs.specs.Endian.{u16_at}
 use Rattle.nl_attrs.proofs.ReadBodies.{generic_taken, read_generic_is}
 use Rattle.nl_attrs.proofs.message_reader.generic_of.Goals as goal
 

@@ -1,4 +1,4 @@
-use Rattle.std.proofs.Common.{◌≡◌, ◌≢◌, ◌≤◌, ◌<◌, length, refl, arith}
+use Rattle.std.proofs.Common.{arith}
 use Rattle.nl_attrs.proofs.Judged.{length_good, error_length, done_length, family_type}
 use Rattle.nl_attrs.proofs.message_reader.message_of.Goals as goal
 

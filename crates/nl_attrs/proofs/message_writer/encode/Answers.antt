@@ -1,7 +1,5 @@
-use Rattle.std.proofs.Common.{◌≡◌, ◌≤◌, ◌+◌, ◌<◌, ◌^◌, length, All, Ok, refl, arith}
+use Rattle.std.proofs.Common.{arith}
 use Rattle.std.proofs.lemmas.Result.{err_from_is_err_and}
-use Rattle.nl_attrs.specs.Attributes.{attrs_bytes}
-use Rattle.nl_attrs.specs.Faults.{IsShort}
 use Rattle.nl_attrs.proofs.Written.{generic_is, size_fault}
 use Rattle.nl_attrs.proofs.message_writer.encode.Goals as goal
 

@@ -1,4 +1,4 @@
-use Rattle.std.proofs.Common.{◌≡◌, refl, sym, ◌∙◌}
+use Rattle.std.proofs.Common.{refl, sym, ◌∙◌}
 use Rattle.nl_attrs.proofs.StreamLaws.{feed_step, none_from_test, held_more}
 use Rattle.nl_attrs.proofs.decoder.Decoder.feed.Goals as goal
 

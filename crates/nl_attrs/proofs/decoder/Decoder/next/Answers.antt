@@ -1,4 +1,4 @@
-use Rattle.std.proofs.Common.{rules, ◌≡◌, refl}
+use Rattle.std.proofs.Common.{rules}
 use Rattle.nl_attrs.proofs.StreamLaws.{fault_step, give_step, takes_found}
 use Rattle.nl_attrs.proofs.decoder.Decoder.next.Goals as goal
 
