@@ -43,7 +43,7 @@ never_faulty m r fault is faulty =
     elim faulty [
       | inl of_length ↦ (let bad = of_length.bad in cc)
       | inr (inl of_type) ↦ (let bad = of_type.bad in cc)
-      | inr (inr of_body) ↦ good_body m of_body.place is.body (rw (sym (type_at-msg m r is)) of_body.family) (rw (sym (body_at-msg m r is)) of_body.bad)
+      | inr (inr of_body) ↦ good_body m of_body.place is.body (rw (sym (type_at-msg m r is)) of_body.message.family) (rw (sym (body_at-msg m r is)) of_body.bad)
     ]
 
 pub undecided-stops : (b : List ℕ) → IsUndecided b → Stops spelled IsMsg b
@@ -80,18 +80,18 @@ one_fault b f g one other =
           elim other [
             | inl s ↦ same_some _ f g r.bad s.bad
             | inr (inl s) ↦ absurd (some_none _ f r.bad s.good_length)
-            | inr (inr s) ↦ absurd (some_none _ f r.bad s.good_length)
+            | inr (inr s) ↦ absurd (some_none _ f r.bad s.message.good_length)
           ]
       | inr (inl r) ↦
           elim other [
             | inl s ↦ absurd (some_none _ g s.bad r.good_length)
             | inr (inl s) ↦ same_some _ f g r.bad s.bad
-            | inr (inr s) ↦ absurd (some_none _ f r.bad s.good_type)
+            | inr (inr s) ↦ absurd (some_none _ f r.bad s.message.good_type)
           ]
       | inr (inr r) ↦
           elim other [
-            | inl s ↦ absurd (some_none _ g s.bad r.good_length)
-            | inr (inl s) ↦ absurd (some_none _ g s.bad r.good_type)
+            | inl s ↦ absurd (some_none _ g s.bad r.message.good_length)
+            | inr (inl s) ↦ absurd (some_none _ g s.bad r.message.good_type)
             | inr (inr s) ↦ r.is ∙ ap BadAttr (one_bad_body _ r.place s.place r.bad s.bad) ∙ sym s.is
           ]
     ]
@@ -104,13 +104,13 @@ undecided_no_fault b f undecided faulty =
           elim faulty [
             | inl r ↦ (let seen = r.seen in omega arith)
             | inr (inl r) ↦ (let seen = r.seen in omega arith)
-            | inr (inr r) ↦ (let whole = r.whole in let long = (length_good _ r.good_length).0 in omega arith)
+            | inr (inr r) ↦ (let whole = r.message.whole in let long = (length_good _ r.message.good_length).0 in omega arith)
           ]
       | inr begun ↦
           elim faulty [
             | inl r ↦ some_none _ f r.bad begun.good_length
             | inr (inl r) ↦ some_none _ f r.bad (begun.good_type r.seen)
-            | inr (inr r) ↦ (let whole = r.whole in let left = begun.left in omega arith)
+            | inr (inr r) ↦ (let whole = r.message.whole in let left = begun.left in omega arith)
           ]
     ]
 
@@ -134,16 +134,18 @@ fault_stays b more f faulty =
           let kind = type_at-more b more seen in
           inr (inl (record { seen = omega arith; good_length = rw len r.good_length; bad = rw (len, kind) r.bad })))
       | inr (inr r) ↦
-          (let whole = r.whole in
-          let long = (length_good _ r.good_length).0 in
+          (let whole = r.message.whole in
+          let long = (length_good _ r.message.good_length).0 in
           let len = length_at-more b more (omega arith) in
           let kind = type_at-more b more (omega arith) in
           let body : body_at (b ++ more) ≡ body_at b = rw (len, take-append-le (length_at b) b more whole) refl in
           inr (inr (record {
-            good_length = rw len r.good_length;
-            good_type = rw (len, kind) r.good_type;
-            whole = omega arith;
-            family = rw kind r.family;
+            message = record {
+              good_length = rw len r.message.good_length;
+              good_type = rw (len, kind) r.message.good_type;
+              whole = omega arith;
+              family = rw kind r.message.family;
+            };
             place = r.place;
             bad = rw body r.bad;
             is = r.is;

@@ -2,7 +2,7 @@
 use Rattle.std.proofs.Common.{◌≡◌, ℕ, ◌≤◌, List, length, take, drop, refl, sym, ap, ◌∙◌, inr, arith}
 use Rattle.std.proofs.lemmas.List.{length-take, take-append-drop}
 use Rattle.nl_attrs.specs.Endian.{u16_at, u32_at}
-use Rattle.nl_attrs.specs.Faults.{IsGoodSoFar, IsWhole, IsBodyRefusal, IsRefusal, length_at, type_at}
+use Rattle.nl_attrs.specs.Faults.{IsGoodSoFar, IsWhole, IsFamilyWhole, IsBodyRefusal, IsRefusal, length_at, type_at}
 use Rattle.nl_attrs.specs.declared.fault.AttrFault.TheVariants.{Truncated, BadLength, Overlong, BadType, BadAttr}
 use Rattle.nl_attrs.specs.declared.fault.NextFault.{NextFault}
 use Rattle.nl_attrs.specs.declared.fault.NextFault.TheVariants.{Bad, OutOfMemory}
@@ -50,21 +50,28 @@ whole_front held n whole =
       within = omega arith;
     }
 
+-- the whole message is of a family
+family_whole : (held : List ℕ) (n : ℕ) → IsWhole held n → 16 ≤ type_at (take n held) → IsFamilyWhole held
+family_whole held n whole family =
+    let within = whole.within in
+    let len = whole.is in
+    record {
+      good_length = whole.good.good_length;
+      good_type = whole.good.good_type;
+      whole = omega arith;
+      family = rw (sym (type_at-front held n whole)) family;
+    }
+
 pub refusal : (held : List ℕ) (n : ℕ) (fault : NextFault) → IsWhole held n → IsBodyRefusal (type_at (take n held)) (drop 16 (take n held)) fault → IsRefusal held fault
 refusal held n (Bad (Truncated k)) whole is = absurd is
 refusal held n (Bad (BadLength k)) whole is = absurd is
 refusal held n (Bad (Overlong k)) whole is = absurd is
 refusal held n (Bad (BadType t)) whole is = absurd is
 refusal held n (Bad (BadAttr place)) whole is =
-    let within = whole.within in
-    let len = whole.is in
     inr (inr (record {
-      good_length = whole.good.good_length;
-      good_type = whole.good.good_type;
-      whole = omega arith;
-      family = rw (sym (type_at-front held n whole)) is.0;
+      message = family_whole held n whole is.0;
       place = place;
-      bad = rw (sym len) is.1;
+      bad = rw (sym whole.is) is.1;
       is = refl;
     }))
-refusal held n OutOfMemory whole is = tt
+refusal held n OutOfMemory whole is = family_whole held n whole is

@@ -60,12 +60,16 @@ IsBadBody body place =
     ((u16_at body 2 ≢ 0) × (place ≡ 18))
     ⊎ ((u16_at body 2 ≡ 0) × ((k : ℕ) × IsFirstBreach (drop 4 body) k × (place ≡ 20 + k)))
 
--- What stands behind the head is judged once the message is whole.
-pub record IsBodyFault (held : List ℕ) (fault : AttrFault) : Type 0 where
+-- a message of a family is whole, and its head has no fault
+pub record IsFamilyWhole (held : List ℕ) : Type 0 where
   pub good_length : length_fault (length_at held) ≡ None
   pub good_type : type_fault (length_at held) (type_at held) ≡ None
   pub whole : length_at held ≤ length held
   pub family : 16 ≤ type_at held
+
+-- What stands behind the head is judged once the message is whole.
+pub record IsBodyFault (held : List ℕ) (fault : AttrFault) : Type 0 where
+  pub message : IsFamilyWhole held
   pub place : ℕ
   pub bad : IsBadBody (body_at held) place
   pub is : fault ≡ BadAttr place
@@ -77,7 +81,7 @@ IsBodyRefusal kind body (next_faults.Bad (BadLength n)) = ⊥
 IsBodyRefusal kind body (next_faults.Bad (Overlong n)) = ⊥
 IsBodyRefusal kind body (next_faults.Bad (BadType t)) = ⊥
 IsBodyRefusal kind body (next_faults.Bad (BadAttr place)) = (16 ≤ kind) × IsBadBody body place
-IsBodyRefusal kind body next_faults.OutOfMemory = Unit {0}
+IsBodyRefusal kind body next_faults.OutOfMemory = 16 ≤ kind
 
 -- the first fault of the message at the front
 abbrev pub IsFault : List ℕ → AttrFault → Type 0
@@ -107,10 +111,10 @@ pub record IsWhole (held : List ℕ) (n : ℕ) : Type 0 where
 abbrev pub IsUndecided : List ℕ → Type 0
 IsUndecided held = (length held < 4) ⊎ IsBegun held
 
--- why attributes can't be read
+-- why attributes can't be read; only one that is there takes memory
 abbrev pub IsAttrsFault : List ℕ → AttrsFault → Type 0
 IsAttrsFault payload (attrs_faults.BadAttr place) = IsFirstBreach payload place
-IsAttrsFault payload attrs_faults.OutOfMemory = Unit {0}
+IsAttrsFault payload attrs_faults.OutOfMemory = 0 < length payload
 
 -- what reading gives where the payload is these attributes: them, unless memory runs out
 abbrev pub GivesAttrs : Result (List Attr) AttrsFault → List Attr → Type 0
@@ -130,10 +134,10 @@ pub record IsFirstLong (attrs : List Attr) (n : ℕ) : Type 0 where
   pub above : 65531 < length long.payload
   pub is : n ≡ length long.payload
 
--- why attributes can't be written
+-- why attributes can't be written; only one that is there takes memory
 abbrev pub IsListFault : List Attr → EncodeFault → Type 0
 IsListFault attrs (encode_faults.Overlong n) = IsFirstLong attrs n
-IsListFault attrs encode_faults.OutOfMemory = Unit {0}
+IsListFault attrs encode_faults.OutOfMemory = 0 < length attrs
 
 -- What has that many bytes is above 65,536. Nothing is counted past 2 ^ 64 - 1.
 abbrev pub IsTooLong : ℕ → ℕ → Type 0
@@ -152,10 +156,10 @@ IsEncodeFault m (encode_faults.Overlong n) =
     IsFirstLong (attrs_in m) n ⊎ (All IsShort (attrs_in m) × IsTooLong (length (spelled m)) n)
 IsEncodeFault m encode_faults.OutOfMemory = Unit {0}
 
--- why the message at the front can't be taken
+-- why the message at the front can't be taken; only a family's takes memory
 abbrev pub IsRefusal : List ℕ → NextFault → Type 0
 IsRefusal held (next_faults.Bad fault) = IsFault held fault
-IsRefusal held next_faults.OutOfMemory = Unit {0}
+IsRefusal held next_faults.OutOfMemory = IsFamilyWhole held
 
 -- a message and its length, at the front
 pub record TakesMessage (held : List ℕ) (m : Msg) (n : ℕ) : Type 0 where

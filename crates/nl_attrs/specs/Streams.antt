@@ -1,7 +1,7 @@
 -- The messages of a stream, and what a decoder has done with the bytes that it was fed.
 use Rattle.std.specs.Prelude.{◌≡◌, ℕ, ◌+◌, ◌<◌, ◌≤◌, ◌⊎◌, List, [], ◌∷◌, ◌++◌, length, All, Option, Some, None, MatchOption, Result, Ok, Err}
 use Rattle.nl_attrs.specs.Messages.{IsMsg, spelled, all_spelled}
-use Rattle.nl_attrs.specs.Faults.{IsFault, IsUndecided}
+use Rattle.nl_attrs.specs.Faults.{IsFamilyWhole, IsFault, IsUndecided}
 use Rattle.nl_attrs.specs.declared.message.Msg.{Msg}
 use Rattle.nl_attrs.specs.declared.fault.AttrFault.{AttrFault}
 use Rattle.nl_attrs.specs.declared.fault.AttrFault.TheVariants.{Truncated}
@@ -54,10 +54,10 @@ pub record Meets (old new : Decoding) (fault : AttrFault) : Type 0 where
   pub taken : new.taken ≡ old.taken
   pub kept : new.fault ≡ Some fault
 
--- why no message is taken
+-- why no message is taken; only a whole one of a family takes memory
 abbrev pub IsNextFault : Decoding → Decoding → NextFault → Type 0
 IsNextFault old new (Bad fault) = Meets old new fault
-IsNextFault old new OutOfMemory = (old.fault ≡ None) × (new ≡ old)
+IsNextFault old new OutOfMemory = (old.fault ≡ None) × (new ≡ old) × IsFamilyWhole old.held
 
 -- What was fed is the spellings of the messages given, the bytes held, and bytes that were fed after a fault and are
 -- lost.

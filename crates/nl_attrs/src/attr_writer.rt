@@ -1,6 +1,6 @@
 //! Writes attributes.
 
-ghost use Rattle.std.specs.Prelude.{◌≡◌, ◌+◌, ◌-◌, ◌<◌, ◌≤◌, ◌^◌, ◌++◌, length, min, replicate, All, IfOk, IfErr, OnOk, MatchOption};
+ghost use Rattle.std.specs.Prelude.{◌≡◌, ◌+◌, ◌-◌, ◌<◌, ◌≤◌, ◌^◌, ◌++◌, length, min, replicate, All, IfOk, IfErr, OnOk, OnErr, MatchOption};
 ghost use Rattle.nl_attrs.specs.Attributes.{IsAttr, padding, kind_field, attr_bytes, attrs_bytes};
 ghost use Rattle.nl_attrs.specs.Faults.{IsShort, IsFirstLong, IsListFault};
 
@@ -55,7 +55,8 @@ fn put_attr(out: &mut Bytes, attr: &Attr) -> Result<(), OutOfMemory>
 pub fn put_attrs(out: &mut Bytes, attrs: &[Attr]) -> Result<(), OutOfMemory>
     requires kinds { All (λ a. a.kind < 16384) attrs.now }
     requires short { All IsShort attrs.now }
-    ensures { OnOk result (out.new ≡ out.old ++ attrs_bytes attrs.now) }
+    ensures ok { OnOk result (out.new ≡ out.old ++ attrs_bytes attrs.now) }
+    ensures err { OnErr result (0 < length attrs.now) }
 {
     for attr in attrs {
         put_attr(out, attr)?;
