@@ -3,7 +3,8 @@ use Rattle.std.proofs.Common.{◌≡◌, ℕ, ◌+◌, ◌<◌, Bool, true, fals
 use Rattle.std.proofs.lemmas.List.{append-nil, length-append, length-replicate, take_at, drop_at}
 use Rattle.std.proofs.lemmas.List.Elements.{recursion_from_All}
 use Rattle.nl_attrs.specs.Endian.{le16, u16_at}
-use Rattle.nl_attrs.specs.Attributes.{IsAttr, BeginsAttr, IsBroken, IsFirstBreach, aligned, padding, padding_at, bit14, kind_field, attr_bytes, attrs_bytes}
+use Rattle.nl_attrs.specs.Attributes.{IsAttr, IsBroken, IsFirstBreach, aligned, padding, padding_at, bit14, kind_field, attr_bytes, attrs_bytes}
+use Rattle.nl_attrs.specs.Reading.{BeginsAttr}
 use Rattle.nl_attrs.specs.declared.attr.Attr.{Attr}
 use Rattle.nl_attrs.proofs.Lengths.{length-le16, length-attr_bytes}
 use Rattle.nl_attrs.proofs.Places.{u16_at-le16}

@@ -2,7 +2,8 @@
 use Rattle.std.proofs.Common.{◌≡◌, ℕ, ◌≤◌, List, length, take, drop, refl, sym, ap, ◌∙◌, inr, arith}
 use Rattle.std.proofs.lemmas.List.{length-take, take-append-drop}
 use Rattle.nl_attrs.specs.Endian.{u16_at, u32_at}
-use Rattle.nl_attrs.specs.Faults.{IsGoodSoFar, IsWhole, IsFamilyWhole, IsBodyRefusal, IsRefusal, length_at, type_at}
+use Rattle.nl_attrs.specs.Faults.{IsFamilyWhole, length_at, type_at}
+use Rattle.nl_attrs.specs.Reading.{IsGoodSoFar, IsWhole, IsBodyRefusal, IsRefusal}
 use Rattle.nl_attrs.specs.declared.fault.AttrFault.TheVariants.{Truncated, BadLength, Overlong, BadType, BadAttr}
 use Rattle.nl_attrs.specs.declared.fault.NextFault.{NextFault}
 use Rattle.nl_attrs.specs.declared.fault.NextFault.TheVariants.{Bad, OutOfMemory}

@@ -5,8 +5,9 @@ use Rattle.std.proofs.lemmas.Bool.{eq-eqb, ne_eqb, le-ltb, and_right}
 use Rattle.std.proofs.lemmas.List.{length-append, take_at, drop_at}
 use Rattle.nl_attrs.specs.Endian.{le32, u16_at, u32_at}
 use Rattle.nl_attrs.specs.Attributes.{attr_bytes, attrs_bytes}
+use Rattle.nl_attrs.specs.Faults.{length_fault, type_fault, length_at, type_at, body_at}
+use Rattle.nl_attrs.specs.Reading.{IsGoodHead}
 use Rattle.nl_attrs.specs.Messages.{IsMsg, FitsBody, head_bytes, spelled, body_of, type_of, flags_of, seq_of, pid_of}
-use Rattle.nl_attrs.specs.Faults.{length_fault, type_fault, length_at, type_at, body_at, IsGoodHead}
 use Rattle.nl_attrs.specs.declared.attr.Attr.{Attr}
 use Rattle.nl_attrs.specs.declared.message.Msg.{Msg}
 use Rattle.nl_attrs.specs.declared.message.Msg.TheVariants.{Generic, Error, Done}

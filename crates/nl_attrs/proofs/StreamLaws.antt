@@ -4,7 +4,8 @@ use Rattle.std.specs.Prelude.{MatchOption}
 use Rattle.std.proofs.lemmas.List.{append-nil, length-append, flat_map_more, take_rest, drop-drop, drop-append-le}
 use Rattle.std.proofs.lemmas.List.Elements.{recursion_from_All, All-push}
 use Rattle.nl_attrs.specs.Messages.{IsMsg, spelled, all_spelled}
-use Rattle.nl_attrs.specs.Faults.{IsFault, IsUndecided, TakesMessage}
+use Rattle.nl_attrs.specs.Faults.{IsFault, IsUndecided}
+use Rattle.nl_attrs.specs.Reading.{TakesMessage}
 use Rattle.nl_attrs.specs.Streams.{AreMessages, Decoding, HasGiven, Takes}
 use Rattle.nl_attrs.specs.declared.fault.AttrFault.{AttrFault}
 use Rattle.nl_attrs.specs.declared.message.Msg.{Msg}

@@ -3,7 +3,8 @@ use Rattle.std.proofs.Common.{◌≡◌, ℕ, zero, suc, ◌+◌, ◌-◌, ◌%�
 use Rattle.std.proofs.lemmas.Bool.{eqb-true, and_parts, leb-true, leb-false}
 use Rattle.std.proofs.lemmas.List.{length-take, length-drop, flat_map_more, append-nil, nil_from_length}
 use Rattle.nl_attrs.specs.Endian.{le16, u16_at}
-use Rattle.nl_attrs.specs.Attributes.{BeginsAttr, aligned, padding, padding_at, is_zero, bit14, kind_field, attr_bytes, attrs_bytes}
+use Rattle.nl_attrs.specs.Attributes.{aligned, padding, padding_at, is_zero, bit14, kind_field, attr_bytes, attrs_bytes}
+use Rattle.nl_attrs.specs.Reading.{BeginsAttr}
 use Rattle.nl_attrs.specs.declared.attr.Attr.{Attr}
 use Rattle.nl_attrs.proofs.Places.{IsBytes, IsBytes-part, le16-u16_at, cut}
 

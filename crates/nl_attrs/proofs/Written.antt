@@ -6,8 +6,9 @@ use Rattle.std.proofs.lemmas.List.{length-append, append-nil, take-append-drop, 
 use Rattle.std.proofs.lemmas.List.Concat.{flat_map-append}
 use Rattle.nl_attrs.specs.Endian.{le32}
 use Rattle.nl_attrs.specs.Attributes.{aligned, attr_bytes, attrs_bytes}
+use Rattle.nl_attrs.specs.Overlong.{IsShort, IsFirstLong, IsEncodeFault}
+use Rattle.nl_attrs.specs.Reading.{IsSizeFault}
 use Rattle.nl_attrs.specs.Messages.{head_bytes, spelled, IsMsg}
-use Rattle.nl_attrs.specs.Faults.{IsShort, IsFirstLong, IsSizeFault, IsEncodeFault}
 use Rattle.nl_attrs.specs.declared.attr.Attr.{Attr}
 use Rattle.nl_attrs.specs.declared.fault.EncodeFault.{EncodeFault}
 use Rattle.nl_attrs.specs.declared.fault.EncodeFault.TheVariants.{Overlong, OutOfMemory}

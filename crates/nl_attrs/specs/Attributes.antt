@@ -1,8 +1,10 @@
 -- Attributes, their one spelling, and where bytes aren't attributes.
-use Rattle.std.specs.Prelude.{◌≡◌, ℕ, ◌+◌, ◌-◌, ◌*◌, ◌/◌, ◌%◌, ◌<◌, ◌≤◌, ◌==◌, ◌⊎◌, Bool, true, false, List, ◌++◌, length, take, drop, replicate, All}
+use Rattle.std.specs.Prelude.{◌≡◌, ℕ, ◌+◌, ◌-◌, ◌*◌, ◌/◌, ◌%◌, ◌<◌, ◌≤◌, ◌==◌, ◌⊎◌, Bool, true, false, List, ◌++◌, length, take, drop, replicate, All, Result, Ok, Err}
 use Rattle.std.specs.List.{flat_map, list_all}
 use Rattle.nl_attrs.specs.Endian.{le16, u16_at}
 use Rattle.nl_attrs.specs.declared.attr.Attr.{Attr}
+use Rattle.nl_attrs.specs.declared.fault.AttrsFault.{AttrsFault}
+use Rattle.nl_attrs.specs.declared.fault.AttrsFault.TheVariants as attrs_faults
 
 -- what has a spelling: bits 14 and 15 are no part of a kind, and the length fits its two bytes with the padding
 pub record IsAttr (a : Attr) : Type 0 where
@@ -42,15 +44,7 @@ is_zero bytes = list_all (λ b. b == 0) bytes
 abbrev pub bit14 : ℕ → ℕ
 bit14 field = field / 16384 % 2
 
--- an attribute stands at the front of the bytes
-pub record BeginsAttr (bytes : List ℕ) : Type 0 where
-  pub header : 4 ≤ length bytes
-  pub long : 4 ≤ u16_at bytes 0
-  pub within : aligned (u16_at bytes 0) ≤ length bytes
-  pub bit : bit14 (u16_at bytes 2) ≡ 0
-  pub zero : is_zero (padding_at bytes (u16_at bytes 0)) ≡ true
-
--- None does: its header isn't whole, or its length is below 4 or passes the end with the padding, or bit 14 of its
+-- No attribute stands at the front of the bytes: its header isn't whole, or its length is below 4 or passes the end with the padding, or bit 14 of its
 -- kind is set, or its padding isn't zero.
 abbrev pub IsBroken : List ℕ → Type 0
 IsBroken bytes =
@@ -69,3 +63,13 @@ pub record IsFirstBreach (bytes : List ℕ) (place : ℕ) : Type 0 where
   pub here : place ≡ length (attrs_bytes before)
   pub left : 0 < length rest
   pub broken : IsBroken rest
+
+-- why attributes can't be read; only one that is there takes memory
+abbrev pub IsAttrsFault : List ℕ → AttrsFault → Type 0
+IsAttrsFault payload (attrs_faults.BadAttr place) = IsFirstBreach payload place
+IsAttrsFault payload attrs_faults.OutOfMemory = 0 < length payload
+
+-- what reading gives where the payload is these attributes: them, unless memory runs out
+abbrev pub GivesAttrs : Result (List Attr) AttrsFault → List Attr → Type 0
+GivesAttrs (Ok list) attrs = list ≡ attrs
+GivesAttrs (Err fault) attrs = fault ≡ attrs_faults.OutOfMemory

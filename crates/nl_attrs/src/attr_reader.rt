@@ -2,8 +2,8 @@
 
 ghost use Rattle.std.specs.Prelude.{◌≡◌, ◌++◌, List, All, IfOk, IfErr, MatchResult};
 ghost use Rattle.std.specs.Bool.{MatchBool};
-ghost use Rattle.nl_attrs.specs.Attributes.{IsAttr, BeginsAttr, IsBroken, is_zero, attr_bytes, attrs_bytes};
-ghost use Rattle.nl_attrs.specs.Faults.{IsAttrsFault, GivesAttrs};
+ghost use Rattle.nl_attrs.specs.Attributes.{IsAttr, IsBroken, is_zero, attr_bytes, attrs_bytes, IsAttrsFault, GivesAttrs};
+ghost use Rattle.nl_attrs.specs.Reading.{BeginsAttr};
 ghost use Rattle.nl_attrs.specs.declared.attr.Attr.{Attr};
 
 use crate::attr::{Attr, HEADER, NESTED, RESERVED};

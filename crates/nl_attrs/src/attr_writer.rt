@@ -2,7 +2,7 @@
 
 ghost use Rattle.std.specs.Prelude.{◌≡◌, ◌+◌, ◌-◌, ◌<◌, ◌≤◌, ◌^◌, ◌++◌, length, min, replicate, All, IfOk, IfErr, OnOk, OnErr, MatchOption};
 ghost use Rattle.nl_attrs.specs.Attributes.{IsAttr, padding, kind_field, attr_bytes, attrs_bytes};
-ghost use Rattle.nl_attrs.specs.Faults.{IsShort, IsFirstLong, IsListFault};
+ghost use Rattle.nl_attrs.specs.Overlong.{IsShort, IsFirstLong, IsListFault};
 
 use crate::attr::{Attr, HEADER, NESTED};
 use crate::fault::EncodeFault;

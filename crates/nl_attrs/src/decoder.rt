@@ -15,9 +15,8 @@ use std::alloc::Global;
 use std::marker::Model;
 
 /// Takes messages from the front of the bytes that it is fed.
-#[derive(Drop)]
+#[derive(Debug, Drop)]
 pub struct Decoder {
-    alloc: Global,
     bytes: Vec<u8>,
     // What stands before is taken.
     start: usize,
@@ -59,7 +58,6 @@ impl Decoder {
         ensures stream { HasGiven result [] [] }
     {
         Decoder {
-            alloc,
             bytes: Vec::new(alloc),
             start: 0,
             taken: 0,
@@ -101,7 +99,7 @@ impl Decoder {
         if let Some(fault) = self.fault {
             return Err(NextFault::Bad(fault));
         }
-        match message_at(self.alloc, &self.bytes[self.start..]) {
+        match message_at(*self.bytes.allocator(), &self.bytes[self.start..]) {
             Ok(Some((message, length))) => {
                 self.start += length;
                 self.taken += length as u64;

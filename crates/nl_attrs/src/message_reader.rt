@@ -2,8 +2,9 @@
 
 ghost use Rattle.std.specs.Prelude.{◌≡◌, ◌+◌, ◌<◌, ◌≤◌, ◌++◌, length, drop, IfOk, IfErr, MatchOption, MatchResult, None};
 ghost use Rattle.nl_attrs.specs.Attributes.{attrs_bytes};
+ghost use Rattle.nl_attrs.specs.Faults.{IsFault, IsUndecided, length_at, type_at, length_fault, type_fault};
+ghost use Rattle.nl_attrs.specs.Reading.{IsGoodHead, IsGoodSoFar, IsBodyRefusal, IsRefusal, IsWhole, TakesMessage};
 ghost use Rattle.nl_attrs.specs.Messages.{IsMsg, head_bytes, spelled};
-ghost use Rattle.nl_attrs.specs.Faults.{IsGoodHead, IsGoodSoFar, IsFault, IsBodyRefusal, IsRefusal, IsUndecided, IsWhole, TakesMessage, length_at, type_at, length_fault, type_fault};
 
 use crate::attr_reader::attrs_of;
 use crate::fault::{AttrFault, AttrsFault, NextFault};

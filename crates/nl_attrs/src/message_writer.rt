@@ -2,8 +2,9 @@
 
 ghost use Rattle.std.specs.Prelude.{◌≡◌, ◌+◌, ◌<◌, ◌≤◌, ◌++◌, ◌∷◌, [], length, All, IfOk, IfErr, OnOk, MatchResult};
 ghost use Rattle.nl_attrs.specs.Attributes.{attrs_bytes};
+ghost use Rattle.nl_attrs.specs.Overlong.{IsEncodeFault, IsShort};
+ghost use Rattle.nl_attrs.specs.Reading.{IsSizeFault};
 ghost use Rattle.nl_attrs.specs.Messages.{IsInRange, IsMsg, head_bytes, spelled};
-ghost use Rattle.nl_attrs.specs.Faults.{IsEncodeFault, IsSizeFault, IsShort};
 
 use crate::attr::Attr;
 use crate::attr_writer::{attrs_len, first_long, put_attrs};

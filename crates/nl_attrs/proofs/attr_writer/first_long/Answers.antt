@@ -1,7 +1,7 @@
 use Rattle.std.proofs.Common.{◌≤◌, length, arith}
 use Rattle.std.proofs.lemmas.List.{take_all}
 use Rattle.std.proofs.lemmas.List.Elements.{All-more}
-use Rattle.nl_attrs.specs.Faults.{IsShort}
+use Rattle.nl_attrs.specs.Overlong.{IsShort}
 use Rattle.nl_attrs.proofs.Written.{first_long_at}
 use Rattle.nl_attrs.proofs.attr_writer.first_long.Goals as goal
 

@@ -1,5 +1,5 @@
 use Rattle.std.proofs.Common.{take, All}
-use Rattle.nl_attrs.specs.Faults.{IsShort}
+use Rattle.nl_attrs.specs.Overlong.{IsShort}
 use Rattle.nl_attrs.proofs.attr_writer.first_long.Given as goal
 
 abbrev pub invariant-loop-attr : goal.invariant-loop-attr
