@@ -28,25 +28,25 @@ same_last rest (Some e) (Some f) one other = ap Some (one_fault rest e f one oth
 
 pub one_stream : (stream : List ℕ) (ms ns : List Msg) (e f : Option AttrFault) → AreMessages stream ms e → AreMessages stream ns f → (ms ≡ ns) × (e ≡ f)
 one_stream stream ms ns e f one other =
-    let same = one_reading spelled IsMsg msg-apart ms ns one.rest other.rest (recursion_from_All IsMsg ms one.each) (recursion_from_All IsMsg ns other.each) (last-stops one.rest e one.last) (last-stops other.rest f other.last) (sym one.joined ∙ other.joined) in
+    let same = one_reading spelled IsMsg msg-apart ms ns one.rest other.rest (recursion_from_All IsMsg ms one.each) (recursion_from_All IsMsg ns other.each) (last-stops one.rest e one.last) (last-stops other.rest f other.last) (sym one.parts ∙ other.parts) in
     (same.0, same_last one.rest e f one.last (let P : List ℕ → Type 0 = λ x. MatchOption f (IsUndecided x) (IsFault x) in subst P (sym same.1) other.last))
 
 -- each list of messages that the stream begins with is the front of its messages
 pub longest_list : (stream : List ℕ) (ms ns : List Msg) (f : Option AttrFault) (left : List ℕ) → AreMessages stream ns f → All IsMsg ms → stream ≡ all_spelled ms ++ left → (more : List Msg) × (ns ≡ ms ++ more)
 longest_list stream ms ns f left messages each e =
-    longest spelled IsMsg msg-apart ms ns left messages.rest (recursion_from_All IsMsg ms each) (recursion_from_All IsMsg ns messages.each) (last-stops messages.rest f messages.last) (sym e ∙ messages.joined)
+    longest spelled IsMsg msg-apart ms ns left messages.rest (recursion_from_All IsMsg ms each) (recursion_from_All IsMsg ns messages.each) (last-stops messages.rest f messages.last) (sym e ∙ messages.parts)
 
 -- what a stream has is had by it with more bytes
 pub goes_on : (stream more : List ℕ) (ms ns : List Msg) (e f : Option AttrFault) → AreMessages stream ms e → AreMessages (stream ++ more) ns f → (others : List Msg) × (ns ≡ ms ++ others)
 goes_on stream more ms ns e f one other =
-    longest_list (stream ++ more) ms ns f (one.rest ++ more) other one.each (ap (λ (x : List ℕ). x ++ more) one.joined ∙ append_assoc (all_spelled ms) one.rest more)
+    longest_list (stream ++ more) ms ns f (one.rest ++ more) other one.each (ap (λ (x : List ℕ). x ++ more) one.parts ∙ append_assoc (all_spelled ms) one.rest more)
 
 pub fault_ends : (stream more : List ℕ) (ms : List Msg) (f : AttrFault) → AreMessages stream ms (Some f) → AreMessages (stream ++ more) ms (Some f)
 fault_ends stream more ms f messages =
     record {
       rest = messages.rest ++ more;
-      joined =
-          ap (λ (x : List ℕ). x ++ more) messages.joined ∙ append_assoc (all_spelled ms) messages.rest more;
+      parts =
+          ap (λ (x : List ℕ). x ++ more) messages.parts ∙ append_assoc (all_spelled ms) messages.rest more;
       each = messages.each;
       last = fault_stays messages.rest more f messages.last;
     }
@@ -55,7 +55,7 @@ pub read_back : (ms : List Msg) → All IsMsg ms → AreMessages (all_spelled ms
 read_back ms each =
     record {
       rest = [];
-      joined = sym (append-nil (all_spelled ms));
+      parts = sym (append-nil (all_spelled ms));
       each = each;
       last = inl (omega arith);
     }
@@ -65,10 +65,10 @@ read_back ms each =
 pub feed_step : (d d' : Decoding) (piece fed : List ℕ) (given : List Msg) → d.fault ≡ None → d'.held ≡ d.held ++ piece → d'.taken ≡ d.taken → d'.fault ≡ None → HasGiven d fed given → HasGiven d' (fed ++ piece) given
 feed_step d d' piece fed given free held taken free' before =
     let none : before.lost ≡ [] = let P : Option AttrFault → Type 0 = λ o. MatchOption o (before.lost ≡ []) (IsFault d.held) in subst P free before.state in
-    let front : fed ≡ all_spelled given ++ d.held = before.joined ∙ ap (λ (x : List ℕ). all_spelled given ++ (d.held ++ x)) none ∙ ap (λ (x : List ℕ). all_spelled given ++ x) (append-nil d.held) in
+    let front : fed ≡ all_spelled given ++ d.held = before.parts ∙ ap (λ (x : List ℕ). all_spelled given ++ (d.held ++ x)) none ∙ ap (λ (x : List ℕ). all_spelled given ++ x) (append-nil d.held) in
     record {
       lost = [];
-      joined =
+      parts =
           ap (λ (x : List ℕ). x ++ piece) front ∙ append_assoc (all_spelled given) d.held piece ∙ ap (λ (x : List ℕ). all_spelled given ++ x) (sym held ∙ sym (append-nil d'.held));
       each = before.each;
       count = taken ∙ before.count;
@@ -80,7 +80,7 @@ fault_step d fault fed given met before =
     let faulty : IsFault d.held fault = let P : Option AttrFault → Type 0 = λ o. MatchOption o (before.lost ≡ []) (IsFault d.held) in subst P met before.state in
     record {
       rest = d.held ++ before.lost;
-      joined = before.joined;
+      parts = before.parts;
       each = before.each;
       last = fault_stays d.held before.lost fault faulty;
     }
@@ -91,8 +91,8 @@ give_step d d' m fed given takes before =
     let spelt : all_spelled given ++ spelled m ≡ all_spelled (given ++ m ∷ []) = flat_map_more spelled [] given m in
     record {
       lost = before.lost;
-      joined =
-          before.joined ∙ ap (λ (x : List ℕ). all_spelled given ++ (x ++ before.lost)) takes.front ∙ ap (λ (x : List ℕ). all_spelled given ++ x) (append_assoc (spelled m) d'.held before.lost) ∙ sym (append_assoc (all_spelled given) (spelled m) (d'.held ++ before.lost)) ∙ ap (λ (x : List ℕ). x ++ (d'.held ++ before.lost)) spelt;
+      parts =
+          before.parts ∙ ap (λ (x : List ℕ). all_spelled given ++ (x ++ before.lost)) takes.front ∙ ap (λ (x : List ℕ). all_spelled given ++ x) (append_assoc (spelled m) d'.held before.lost) ∙ sym (append_assoc (all_spelled given) (spelled m) (d'.held ++ before.lost)) ∙ ap (λ (x : List ℕ). x ++ (d'.held ++ before.lost)) spelt;
       each = All-push IsMsg given m before.each takes.message;
       count =
           takes.count ∙ ap (λ (n : ℕ). n + length (spelled m)) before.count ∙ sym (length-append (all_spelled given) (spelled m)) ∙ ap length spelt;

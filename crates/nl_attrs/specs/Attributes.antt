@@ -44,8 +44,8 @@ is_zero bytes = list_all (λ b. b == 0) bytes
 abbrev pub bit14 : ℕ → ℕ
 bit14 field = field / 16384 % 2
 
--- No attribute stands at the front of the bytes: its header isn't whole, or its length is below 4 or passes the end with the padding, or bit 14 of its
--- kind is set, or its padding isn't zero.
+-- No attribute stands at the front of the bytes: its header isn't whole, or its length is below 4 or passes the end
+-- with the padding, or bit 14 of its kind is set, or its padding isn't zero.
 abbrev pub IsBroken : List ℕ → Type 0
 IsBroken bytes =
     (length bytes < 4)

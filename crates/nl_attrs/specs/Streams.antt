@@ -1,5 +1,6 @@
 -- The messages of a stream, and what a decoder has done with the bytes that it was fed.
 use Rattle.std.specs.Prelude.{◌≡◌, ℕ, ◌+◌, ◌<◌, ◌≤◌, ◌⊎◌, List, [], ◌∷◌, ◌++◌, length, All, Option, Some, None, MatchOption, Result, Ok, Err}
+use Rattle.std.specs.List.{flat_map}
 use Rattle.nl_attrs.specs.Messages.{IsMsg, spelled, all_spelled}
 use Rattle.nl_attrs.specs.Faults.{IsFamilyWhole, IsFault, IsUndecided}
 use Rattle.nl_attrs.specs.declared.message.Msg.{Msg}
@@ -8,10 +9,14 @@ use Rattle.nl_attrs.specs.declared.fault.AttrFault.TheVariants.{Truncated}
 use Rattle.nl_attrs.specs.declared.fault.NextFault.{NextFault}
 use Rattle.nl_attrs.specs.declared.fault.NextFault.TheVariants.{Bad, OutOfMemory}
 
+-- the stream that comes in these pieces
+abbrev pub joined : List (List ℕ) → List ℕ
+joined pieces = flat_map (λ piece. piece) pieces
+
 -- The stream is the spellings of the messages, and a rest that is undecided or has the fault at its front.
 pub record AreMessages (stream : List ℕ) (messages : List Msg) (fault : Option AttrFault) : Type 0 where
   pub rest : List ℕ
-  pub joined : stream ≡ all_spelled messages ++ rest
+  pub parts : stream ≡ all_spelled messages ++ rest
   pub each : All IsMsg messages
   pub last : MatchOption fault (IsUndecided rest) (IsFault rest)
 
@@ -63,7 +68,7 @@ IsNextFault old new OutOfMemory = (old.fault ≡ None) × (new ≡ old) × IsFam
 -- lost.
 pub record HasGiven (d : Decoding) (fed : List ℕ) (given : List Msg) : Type 0 where
   pub lost : List ℕ
-  pub joined : fed ≡ all_spelled given ++ (d.held ++ lost)
+  pub parts : fed ≡ all_spelled given ++ (d.held ++ lost)
   pub each : All IsMsg given
   pub count : d.taken ≡ length (all_spelled given)
   pub state : MatchOption d.fault (lost ≡ []) (IsFault d.held)
@@ -83,7 +88,7 @@ IsLeft (Some before) n fault = fault ≡ before
 -- bytes are left behind the last message
 pub record IsTruncated (fed : List ℕ) (given : List Msg) (fault : AttrFault) : Type 0 where
   pub rest : List ℕ
-  pub joined : fed ≡ all_spelled given ++ rest
+  pub parts : fed ≡ all_spelled given ++ rest
   pub left : 0 < length rest
   pub is : fault ≡ Truncated (length rest)
 

@@ -60,7 +60,8 @@ pub fn attrs_of(alloc: Global, payload: &[u8]) -> Result<AttrList, AttrsFault>
     ensures each { IfOk result (All IsAttr) }
     ensures fault { IfErr result (IsAttrsFault payload.now) }
     // It undoes `attrs_bytes`, unless memory runs out.
-    ensures inverse { (attrs : List Attr) → All IsAttr attrs → payload.now ≡ attrs_bytes attrs → GivesAttrs result attrs }
+    ensures inverse { (attrs : List Attr) → All IsAttr attrs
+        → payload.now ≡ attrs_bytes attrs → GivesAttrs result attrs }
 {
     let mut list = AttrList::new(alloc);
     let mut rest = payload;

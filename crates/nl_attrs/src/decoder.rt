@@ -30,13 +30,18 @@ impl Model for Decoder {
 
     ghost Value = { Decoding };
 
-    ghost view = { λ d. record { held = drop d.start d.bytes.items; taken = d.taken; fault = d.fault } };
+    ghost view = { λ d. record {
+        held = drop d.start d.bytes.items;
+        taken = d.taken;
+        fault = d.fault;
+    } };
 
-    ghost invariant = { λ d. (d.start ≤ length d.bytes.items) × (d.taken + (length d.bytes.items - d.start) ≤ 2 ^ 63) };
+    ghost invariant = { λ d. (d.start ≤ length d.bytes.items)
+        × (d.taken + (length d.bytes.items - d.start) ≤ 2 ^ 63) };
 }
 
 /// Moves what stands from `start` on to the front, where at least as much was taken, and answers
-/// where it stands then. So no byte is moved more often than another is taken.
+/// where it stands then. So no more bytes are moved in all than were taken.
 fn close_up(bytes: &mut Vec<u8>, start: usize) -> usize
     requires { start ≤ length bytes.old.items }
     ensures within { result ≤ length bytes.new.items }
@@ -120,7 +125,8 @@ impl Decoder {
         ensures done { OnOk result ((self.now.held ≡ []) × (self.now.fault ≡ None)) }
         ensures fault { IfErr result (IsLeft self.now.fault (length self.now.held)) }
         // What was fed is the spellings of the messages given, or has that fault behind them.
-        ensures stream { (fed : List ℕ) (given : List Msg) → HasGiven self.now fed given → Ends fed given result }
+        ensures stream { (fed : List ℕ) (given : List Msg) →
+            HasGiven self.now fed given → Ends fed given result }
     {
         if let Some(fault) = self.fault {
             return Err(fault);

@@ -75,7 +75,8 @@ fn early_fault(held: &[u8]) -> Option<AttrFault>
 /// The head of a message.
 fn head_at(bytes: &[u8]) -> Head
     requires { 16 ≤ length bytes.now }
-    ensures parts { bytes.now ≡ head_bytes result.length result.kind result.flags result.seq result.pid ++ drop 16 bytes.now }
+    ensures parts { bytes.now ≡ head_bytes result.length result.kind result.flags result.seq result.pid
+        ++ drop 16 bytes.now }
     ensures length { result.length ≡ length_at bytes.now }
     ensures kind { result.kind ≡ type_at bytes.now }
 {
@@ -125,8 +126,8 @@ fn generic_of(alloc: Global, head: Head, body: &[u8]) -> Result<Msg, NextFault>
     requires long { 4 ≤ length body.now }
     requires short { length body.now ≤ 65520 }
     ensures message { IfOk result IsMsg }
-    ensures spelled { IfOk result (λ m. head_bytes (16 + length body.now) head.kind head.flags head.seq head.pid
-        ++ body.now ≡ spelled m) }
+    ensures spelled { IfOk result (λ m.
+        head_bytes (16 + length body.now) head.kind head.flags head.seq head.pid ++ body.now ≡ spelled m) }
     ensures fault { IfErr result (IsBodyRefusal head.kind body.now) }
 {
     if u16_at(body, 2) != 0 {
@@ -154,8 +155,8 @@ fn message_of(alloc: Global, head: Head, body: &[u8]) -> Result<Msg, NextFault>
     requires length { head.length ≡ 16 + length body.now }
     requires good { IsGoodHead head.length head.kind }
     ensures message { IfOk result IsMsg }
-    ensures spelled { IfOk result (λ m. head_bytes head.length head.kind head.flags head.seq head.pid
-        ++ body.now ≡ spelled m) }
+    ensures spelled { IfOk result (λ m.
+        head_bytes head.length head.kind head.flags head.seq head.pid ++ body.now ≡ spelled m) }
     ensures fault { IfErr result (IsBodyRefusal head.kind body.now) }
 {
     match head.kind {
@@ -170,7 +171,9 @@ fn message_of(alloc: Global, head: Head, body: &[u8]) -> Result<Msg, NextFault>
 
 /// The length of the message at the front, or `None` where it isn't whole.
 fn whole_length(held: &[u8]) -> Result<Option<usize>, AttrFault>
-    ensures { MatchResult result (λ found. MatchOption found (IsUndecided held.now) (IsWhole held.now)) (IsFault held.now) }
+    ensures { MatchResult result
+        (λ found. MatchOption found (IsUndecided held.now) (IsWhole held.now))
+        (IsFault held.now) }
 {
     if let Some(fault) = early_fault(held) {
         return Err(fault);
@@ -199,7 +202,8 @@ fn message_in(alloc: Global, bytes: &[u8]) -> Result<Msg, NextFault>
 
 /// The message at the front of the bytes with its length, or `None` where it isn't whole.
 pub fn message_at(alloc: Global, held: &[u8]) -> Result<Option<(Msg, usize)>, NextFault>
-    ensures message { IfOk result (λ found. MatchOption found (IsUndecided held.now) (λ x. TakesMessage held.now x.0 x.1)) }
+    ensures message { IfOk result (λ found.
+        MatchOption found (IsUndecided held.now) (λ x. TakesMessage held.now x.0 x.1)) }
     ensures fault { IfErr result (IsRefusal held.now) }
 {
     match whole_length(held) {

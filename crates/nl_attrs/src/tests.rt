@@ -95,6 +95,47 @@ const ANSWERS: [u8; 56] = [
 ];
 
 #[test]
+fn spellings(rt: HostRuntime) -> Result<(), Fail> {
+    let alloc = rt.alloc();
+    let mut attrs = AttrList::new(alloc);
+    let mut payload = Bytes::new(alloc);
+    payload.append(b"US\0")?;
+    attrs.push(Attr {
+        kind: 0x21,
+        nested: false,
+        payload,
+    })?;
+    let set_reg = Msg::Generic {
+        family: 32,
+        flags: 5,
+        seq: 1,
+        pid: 0,
+        cmd: 27,
+        version: 0,
+        attrs,
+    };
+    assert_eq!(rt; encode(alloc, &set_reg)?.as_slice(), &REQUESTS[..28]);
+    let mut head = [0u8; 16];
+    head.copy_from_slice(&REQUESTS[..16]);
+    let error = Msg::Error {
+        flags: 0,
+        seq: 1,
+        pid: 0,
+        code: -22,
+        head,
+    };
+    assert_eq!(rt; encode(alloc, &error)?.as_slice(), &ANSWERS[..36]);
+    let done = Msg::Done {
+        flags: 2,
+        seq: 2,
+        pid: 0,
+        code: 0,
+    };
+    assert_eq!(rt; encode(alloc, &done)?.as_slice(), &ANSWERS[36..]);
+    Ok(())
+}
+
+#[test]
 fn streams_of_messages(rt: HostRuntime) -> Result<(), Fail> {
     let alloc = rt.alloc();
     assert_stream(&rt, alloc, &[], 0, Ok(()))?;
