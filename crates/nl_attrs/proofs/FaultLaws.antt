@@ -3,7 +3,7 @@ use Rattle.std.proofs.Common.{◌≡◌, ℕ, ◌+◌, ◌≤◌, List, ◌++◌
 use Rattle.std.proofs.lemmas.List.{length-append, take-append-le}
 use Rattle.nl_attrs.specs.Endian.{u16_at}
 use Rattle.nl_attrs.specs.Messages.{IsMsg, FitsBody, spelled, body_of, type_of}
-use Rattle.nl_attrs.specs.Faults.{length_at, type_at, body_at, IsBadBody, IsFault, IsUndecided}
+use Rattle.nl_attrs.specs.Faults.{length_at, type_at, body_at, IsBadBody, IsFault, IsUndecided, IsFamilyWhole}
 use Rattle.nl_attrs.specs.declared.fault.AttrFault.{AttrFault}
 use Rattle.nl_attrs.specs.declared.fault.AttrFault.TheVariants.{BadAttr}
 use Rattle.nl_attrs.specs.declared.message.Msg.{Msg}
@@ -96,6 +96,15 @@ one_fault b f g one other =
           ]
     ]
 
+-- what is undecided is no whole message
+pub undecided_not_whole : (b : List ℕ) → IsUndecided b → IsFamilyWhole b → ⊥
+undecided_not_whole b undecided message =
+    let whole = message.whole in
+    elim undecided [
+      | inl few ↦ (let long = (length_good _ message.good_length).0 in omega arith)
+      | inr begun ↦ (let left = begun.left in omega arith)
+    ]
+
 -- what is undecided shows no fault
 pub undecided_no_fault : (b : List ℕ) (f : AttrFault) → IsUndecided b → IsFault b f → ⊥
 undecided_no_fault b f undecided faulty =
@@ -104,13 +113,13 @@ undecided_no_fault b f undecided faulty =
           elim faulty [
             | inl r ↦ (let seen = r.seen in omega arith)
             | inr (inl r) ↦ (let seen = r.seen in omega arith)
-            | inr (inr r) ↦ (let whole = r.message.whole in let long = (length_good _ r.message.good_length).0 in omega arith)
+            | inr (inr r) ↦ undecided_not_whole b (inl few) r.message
           ]
       | inr begun ↦
           elim faulty [
             | inl r ↦ some_none _ f r.bad begun.good_length
             | inr (inl r) ↦ some_none _ f r.bad (begun.good_type r.seen)
-            | inr (inr r) ↦ (let whole = r.message.whole in let left = begun.left in omega arith)
+            | inr (inr r) ↦ undecided_not_whole b (inr begun) r.message
           ]
     ]
 

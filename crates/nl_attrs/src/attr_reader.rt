@@ -6,7 +6,7 @@ ghost use Rattle.nl_attrs.specs.Attributes.{IsAttr, IsBroken, is_zero, attr_byte
 ghost use Rattle.nl_attrs.specs.Reading.{BeginsAttr};
 ghost use Rattle.nl_attrs.specs.declared.attr.Attr.{Attr};
 
-use crate::attr::{Attr, HEADER, NESTED, RESERVED};
+use crate::attr::{Attr, HEADER, NESTED, RESERVED, aligned};
 use crate::fault::AttrsFault;
 use crate::lists::AttrList;
 use crate::numbers::u16_at;
@@ -28,7 +28,7 @@ fn begins_attr(bytes: &[u8]) -> bool
         return false;
     }
     let length = u16_at(bytes, 0) as usize;
-    let end = (length + 3) / 4 * 4;
+    let end = aligned(length);
     if length < HEADER || bytes.len() < end || u16_at(bytes, 2) / RESERVED % 2 == 1 {
         return false;
     }
@@ -50,7 +50,7 @@ fn attr_at(alloc: Global, bytes: &[u8]) -> Result<(Attr, &[u8]), OutOfMemory>
         nested: field >= NESTED,
         payload,
     };
-    Ok((attr, &bytes[(length + 3) / 4 * 4..]))
+    Ok((attr, &bytes[aligned(length)..]))
 }
 
 /// The attributes of a payload, which is nothing but attributes. `AttrsFault::BadAttr` names the

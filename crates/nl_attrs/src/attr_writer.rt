@@ -4,15 +4,12 @@ ghost use Rattle.std.specs.Prelude.{◌≡◌, ◌+◌, ◌-◌, ◌<◌, ◌≤
 ghost use Rattle.nl_attrs.specs.Attributes.{IsAttr, padding, kind_field, attr_bytes, attrs_bytes};
 ghost use Rattle.nl_attrs.specs.Overlong.{IsShort, IsFirstLong, IsListFault};
 
-use crate::attr::{Attr, HEADER, NESTED};
+use crate::attr::{Attr, HEADER, MOST_PAYLOAD, NESTED, aligned};
 use crate::fault::EncodeFault;
 use crate::lists::AttrList;
 use crate::numbers::put_u16;
 use reg_base::{Bytes, OutOfMemory};
 use std::alloc::Global;
-
-/// The greatest payload, in bytes.
-const MOST_PAYLOAD: usize = 65_531;
 
 /// The kind with its bit for nested.
 fn kind_field(attr: &Attr) -> u16
@@ -32,7 +29,7 @@ fn put_padding(out: &mut Bytes, length: usize) -> Result<(), OutOfMemory>
     ensures { OnOk result (out.new ≡ out.old ++ replicate (padding length) 0) }
 {
     let zeros = [0u8; 3];
-    out.append(&zeros[..(length + 3) / 4 * 4 - length])?;
+    out.append(&zeros[..aligned(length) - length])?;
     Ok(())
 }
 
@@ -85,7 +82,7 @@ pub fn attrs_len(attrs: &[Attr]) -> u64
     let mut sum = 0u64;
     for attr in attrs {
         let length = HEADER + attr.payload.len();
-        sum = sum.saturating_add(((length + 3) / 4 * 4) as u64);
+        sum = sum.saturating_add(aligned(length) as u64);
     }
     sum
 }

@@ -31,9 +31,9 @@ impl Model for Decoder {
     ghost Value = { Decoding };
 
     ghost view = { λ d. record {
-        held = drop d.start d.bytes.items;
-        taken = d.taken;
-        fault = d.fault;
+      held = drop d.start d.bytes.items;
+      taken = d.taken;
+      fault = d.fault;
     } };
 
     ghost invariant = { λ d. (d.start ≤ length d.bytes.items)

@@ -2,7 +2,7 @@
 
 ghost use Rattle.std.specs.Prelude.{◌≡◌, ◌++◌, ℕ, List, [], All, Option, None, Some};
 ghost use Rattle.nl_attrs.specs.Attributes.{IsAttr, IsFirstBreach, attr_bytes, attrs_bytes};
-ghost use Rattle.nl_attrs.specs.Faults.{IsFault, IsUndecided};
+ghost use Rattle.nl_attrs.specs.Faults.{IsFamilyWhole, IsFault, IsUndecided};
 ghost use Rattle.nl_attrs.specs.Messages.{IsMsg, spelled, all_spelled};
 ghost use Rattle.nl_attrs.specs.Streams.{AreMessages, joined};
 ghost use Rattle.nl_attrs.specs.declared.attr.Attr.{Attr};
@@ -25,12 +25,14 @@ pub fn one_spelling()
         → IsFirstBreach (attrs_bytes xs) k → ⊥ }
 {}
 
-/// At the front of a stream is one of three: a message, a fault, or what is undecided.
+/// At the front of a stream is one of three: a message, a fault, or what is undecided, which takes
+/// no memory.
 pub fn one_verdict()
     ensures whole { (m : Msg) (rest : List ℕ) → IsMsg m → IsUndecided (spelled m ++ rest) → ⊥ }
     ensures sound { (m : Msg) (rest : List ℕ) (f : AttrFault) → IsMsg m
         → IsFault (spelled m ++ rest) f → ⊥ }
     ensures decided { (held : List ℕ) (f : AttrFault) → IsUndecided held → IsFault held f → ⊥ }
+    ensures waits { (held : List ℕ) → IsUndecided held → IsFamilyWhole held → ⊥ }
     ensures fault { (held : List ℕ) (f g : AttrFault) → IsFault held f → IsFault held g → f ≡ g }
 {}
 

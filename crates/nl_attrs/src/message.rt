@@ -35,11 +35,29 @@ pub enum Msg {
     },
 }
 
+/// The bytes of a message's head.
+pub const HEAD: usize = 16;
+
+/// The bytes of a family's message before its attributes, the least that a message has.
+pub const GENERIC_BYTES: u32 = 20;
+
+/// The bytes of an Error message.
+pub const ERROR_BYTES: u32 = 36;
+
+/// The bytes of a Done message.
+pub const DONE_BYTES: u32 = 20;
+
+/// The greatest message, in bytes.
+pub const MOST_BYTES: u32 = 65_536;
+
 /// The type of an Error message (`NLMSG_ERROR`).
 pub const ERROR: u16 = 2;
 
 /// The type of a Done message (`NLMSG_DONE`).
 pub const DONE: u16 = 3;
+
+/// The least family: a type below is another or none.
+pub const LEAST_FAMILY: u16 = 16;
 
 /// What stands before the body of each message.
 #[derive(Clone, Copy)]

@@ -8,31 +8,21 @@ ghost use Rattle.nl_attrs.specs.Messages.{IsMsg, head_bytes, spelled};
 
 use crate::attr_reader::attrs_of;
 use crate::fault::{AttrFault, AttrsFault, NextFault};
-use crate::message::{DONE, ERROR, Head, Msg};
+use crate::message::{
+    DONE, DONE_BYTES, ERROR, ERROR_BYTES, GENERIC_BYTES, HEAD, Head, LEAST_FAMILY, MOST_BYTES, Msg,
+};
 use crate::numbers::{i32_at, u16_at, u32_at};
 use std::alloc::Global;
 
-/// The bytes of a message's head.
-const HEAD: usize = 16;
-
-/// The bytes of a family's message before its attributes.
-const GENERIC_HEAD: u64 = 20;
-
 /// The place of a family's reserved number.
 const RESERVED_PLACE: u64 = 18;
-
-/// The greatest message, in bytes.
-const MOST_BYTES: u32 = 65_536;
-
-/// The least family: a type below is another or none.
-const LEAST_FAMILY: u16 = 16;
 
 /// The fault of a length.
 #[tactic(auto, unfolding(crate::specs::Faults::length_fault))]
 fn length_fault(length: u32) -> Option<AttrFault>
     ensures { result ≡ length_fault length }
 {
-    if length < 20 || length % 4 != 0 {
+    if length < GENERIC_BYTES || length % 4 != 0 {
         Some(AttrFault::BadLength(length))
     } else if length > MOST_BYTES {
         Some(AttrFault::Overlong(length))
@@ -46,7 +36,7 @@ fn length_fault(length: u32) -> Option<AttrFault>
 fn type_fault(length: u32, kind: u16) -> Option<AttrFault>
     ensures { result ≡ type_fault length kind }
 {
-    if (kind == ERROR && length != 36) || (kind == DONE && length != 20) {
+    if (kind == ERROR && length != ERROR_BYTES) || (kind == DONE && length != DONE_BYTES) {
         Some(AttrFault::BadLength(length))
     } else if kind < ERROR || (DONE < kind && kind < LEAST_FAMILY) {
         Some(AttrFault::BadType(kind))
@@ -144,7 +134,7 @@ fn generic_of(alloc: Global, head: Head, body: &[u8]) -> Result<Msg, NextFault>
             attrs,
         }),
         Err(AttrsFault::BadAttr(place)) => {
-            Err(NextFault::Bad(AttrFault::BadAttr(GENERIC_HEAD + place)))
+            Err(NextFault::Bad(AttrFault::BadAttr(u64::from(GENERIC_BYTES) + place)))
         }
         Err(AttrsFault::OutOfMemory) => Err(NextFault::OutOfMemory),
     }

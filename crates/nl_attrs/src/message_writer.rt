@@ -9,22 +9,16 @@ ghost use Rattle.nl_attrs.specs.Messages.{IsInRange, IsMsg, head_bytes, spelled}
 use crate::attr::Attr;
 use crate::attr_writer::{attrs_len, first_long, put_attrs};
 use crate::fault::EncodeFault;
-use crate::message::{DONE, ERROR, Head, Msg};
+use crate::message::{DONE, DONE_BYTES, ERROR, ERROR_BYTES, GENERIC_BYTES, Head, MOST_BYTES, Msg};
 use crate::numbers::{put_i32, put_u16, put_u32};
 use reg_base::{Bytes, OutOfMemory};
 use std::alloc::Global;
 
-/// The greatest message, in bytes.
-const MOST_BYTES: u64 = 65_536;
-
-/// The bytes of a family's message before its attributes.
-const GENERIC_HEAD: u64 = 20;
-
 /// Writes the head of a message.
 #[tactic(auto, unfolding(crate::specs::Messages::head_bytes))]
-fn put_head(out: &mut Bytes, head: &Head) -> Result<(), OutOfMemory>
+fn put_head(out: &mut Bytes, head: Head) -> Result<(), OutOfMemory>
     ensures { OnOk result (out.new ≡ out.old
-        ++ head_bytes head.now.length head.now.kind head.now.flags head.now.seq head.now.pid) }
+        ++ head_bytes head.length head.kind head.flags head.seq head.pid) }
 {
     put_u32(out, head.length)?;
     put_u16(out, head.kind)?;
@@ -43,8 +37,8 @@ fn generic_length(attrs: &[Attr]) -> Result<u32, EncodeFault>
     if let Some(length) = first_long(attrs) {
         return Err(EncodeFault::Overlong(length as u64));
     }
-    let length = attrs_len(attrs).saturating_add(GENERIC_HEAD);
-    if length > MOST_BYTES {
+    let length = attrs_len(attrs).saturating_add(u64::from(GENERIC_BYTES));
+    if length > u64::from(MOST_BYTES) {
         return Err(EncodeFault::Overlong(length));
     }
     Ok(length as u32)
@@ -63,13 +57,13 @@ fn done_bytes(
 {
     let mut out = Bytes::new(alloc);
     let head = Head {
-        length: 20,
+        length: DONE_BYTES,
         kind: DONE,
         flags,
         seq,
         pid,
     };
-    put_head(&mut out, &head)?;
+    put_head(&mut out, head)?;
     put_i32(&mut out, code)?;
     Ok(out)
 }
@@ -88,13 +82,13 @@ fn error_bytes(
 {
     let mut out = Bytes::new(alloc);
     let head = Head {
-        length: 36,
+        length: ERROR_BYTES,
         kind: ERROR,
         flags,
         seq,
         pid,
     };
-    put_head(&mut out, &head)?;
+    put_head(&mut out, head)?;
     put_i32(&mut out, code)?;
     out.append(request)?;
     Ok(out)
@@ -125,7 +119,7 @@ pub fn encode(alloc: Global, m: &Msg) -> Result<Bytes, EncodeFault>
             let mut out = Bytes::new(alloc);
             put_head(
                 &mut out,
-                &Head {
+                Head {
                     length,
                     kind: *family,
                     flags: *flags,

@@ -16,6 +16,9 @@ use std::alloc::Global;
 use std::process::Abort;
 use std::test::Fail;
 
+/// More than a stream of these tests has.
+const ROOM: usize = 100_000;
+
 /// Takes all messages that are whole, and writes them again.
 fn take_all(alloc: Global, decoder: &mut Decoder, out: &mut Bytes) -> Result<(), Fail>
     ensures { decoder.new.taken + length decoder.new.held ≡ decoder.old.taken + length decoder.old.held }
@@ -36,7 +39,7 @@ fn take_all(alloc: Global, decoder: &mut Decoder, out: &mut Bytes) -> Result<(),
 /// The messages of a stream that comes in one piece, written again, how many bytes they have, and
 /// how the stream ends.
 fn in_one_piece(alloc: Global, stream: &[u8]) -> Result<(Bytes, u64, Result<(), AttrFault>), Fail>
-    requires { length stream.now < 100000 }
+    requires { length stream.now < ROOM }
 {
     let mut out = Bytes::new(alloc);
     let mut decoder = Decoder::new(alloc);
@@ -47,7 +50,7 @@ fn in_one_piece(alloc: Global, stream: &[u8]) -> Result<(Bytes, u64, Result<(), 
 
 /// The same of a stream that comes byte by byte.
 fn byte_by_byte(alloc: Global, stream: &[u8]) -> Result<(Bytes, u64, Result<(), AttrFault>), Fail>
-    requires { length stream.now < 100000 }
+    requires { length stream.now < ROOM }
 {
     let mut out = Bytes::new(alloc);
     let mut decoder = Decoder::new(alloc);
@@ -66,7 +69,7 @@ fn assert_stream<R: Abort>(
     taken: usize,
     end: Result<(), AttrFault>,
 ) -> Result<(), Fail>
-    requires few { length stream.now < 100000 }
+    requires few { length stream.now < ROOM }
     requires within { taken ≤ length stream.now }
 {
     let (bytes, count, last) = in_one_piece(alloc, stream)?;
@@ -191,9 +194,8 @@ fn streams_with_faults(rt: HostRuntime) -> Result<(), Fail> {
         ),
     ];
     for (stream, fault) in table {
-        if stream.len() < 100 {
-            assert_stream(&rt, alloc, stream, 0, Err(fault))?;
-        }
+        assert!(rt; stream.len() < ROOM);
+        assert_stream(&rt, alloc, stream, 0, Err(fault))?;
     }
     Ok(())
 }
