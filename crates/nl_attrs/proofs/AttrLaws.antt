@@ -1,7 +1,7 @@
 -- What is an attribute's spelling is no breach, and a list of attributes is read in one way.
-use Rattle.std.proofs.Common.{◌≡◌, ℕ, ◌+◌, ◌<◌, Bool, true, false, List, [], ◌++◌, length, take, replicate, All, refl, sym, ap, subst, ◌∙◌, inl, inr, append_assoc, arith}
+use Rattle.std.proofs.Common.{◌≡◌, ℕ, ◌+◌, ◌<◌, Bool, true, false, List, [], ◌++◌, length, take, replicate, All, refl, sym, ap, subst, ◌∙◌, inl, inr, append_assoc, arith, ◌∷◌}
 use Rattle.std.proofs.lemmas.List.{append-nil, length-append, length-replicate, take_at, drop_at}
-use Rattle.std.proofs.lemmas.List.Elements.{recursion_from_All}
+use Rattle.std.proofs.lemmas.List.Elements.{recursion_from_All, All-head}
 use Rattle.nl_attrs.specs.Endian.{le16, u16_at}
 use Rattle.nl_attrs.specs.Attributes.{IsAttr, IsBroken, IsFirstBreach, aligned, padding, padding_at, bit14, kind_field, attr_bytes, attrs_bytes}
 use Rattle.nl_attrs.specs.Reading.{BeginsAttr}
@@ -87,3 +87,16 @@ pub one_place : (bytes : List ℕ) (j k : ℕ) → IsFirstBreach bytes j → IsF
 one_place bytes j k one other =
     let same = one_reading attr_bytes IsAttr attr-apart one.before other.before one.rest other.rest (recursion_from_All IsAttr one.before one.each) (recursion_from_All IsAttr other.before other.each) (broken-stops one.rest one.broken) (broken-stops other.rest other.broken) (sym one.joined ∙ other.joined) in
     one.here ∙ ap (λ (xs : List Attr). length (attrs_bytes xs)) same.0 ∙ sym other.here
+
+-- what attributes were read from, up to one more, begins with an attribute
+begins_before : (payload : List ℕ) (attrs : List Attr) (rest : List ℕ) → payload ≡ attrs_bytes attrs ++ rest → All IsAttr attrs → BeginsAttr rest → BeginsAttr payload
+begins_before payload [] rest joined each begins = let P : List ℕ → Type 0 = BeginsAttr in subst P (sym joined) begins
+begins_before payload (a ∷ attrs) rest joined each begins =
+    let P : List ℕ → Type 0 = BeginsAttr in
+    subst P (sym (joined ∙ append_assoc (attr_bytes a) (attrs_bytes attrs) rest)) (begins-attr a (attrs_bytes attrs ++ rest) (All-head IsAttr a attrs each))
+
+pub memory_wanted : (payload : List ℕ) (attrs : List Attr) (rest : List ℕ) → payload ≡ attrs_bytes attrs ++ rest → All IsAttr attrs → BeginsAttr rest → (0 < length payload) × (IsBroken payload → ⊥)
+memory_wanted payload attrs rest joined each begins =
+    let front = begins_before payload attrs rest joined each begins in
+    let header = front.header in
+    (omega arith, never_both payload front)

@@ -83,4 +83,4 @@ size_fault (Overlong n) family flags seq pid cmd version attrs is =
           let bytes : length (spelled (Generic family flags seq pid cmd version attrs)) ≡ 20 + length (attrs_bytes attrs) = rw length-spelled (omega arith) in
           inr (message.0, rw bytes message.1)
     ]
-size_fault OutOfMemory family flags seq pid cmd version attrs is = tt
+size_fault OutOfMemory family flags seq pid cmd version attrs is = absurd is

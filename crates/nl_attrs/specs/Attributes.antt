@@ -64,10 +64,10 @@ pub record IsFirstBreach (bytes : List ℕ) (place : ℕ) : Type 0 where
   pub left : 0 < length rest
   pub broken : IsBroken rest
 
--- why attributes can't be read; only one that is there takes memory
+-- why attributes can't be read; only one that stands there takes memory
 abbrev pub IsAttrsFault : List ℕ → AttrsFault → Type 0
 IsAttrsFault payload (attrs_faults.BadAttr place) = IsFirstBreach payload place
-IsAttrsFault payload attrs_faults.OutOfMemory = 0 < length payload
+IsAttrsFault payload attrs_faults.OutOfMemory = (0 < length payload) × (IsBroken payload → ⊥)
 
 -- what reading gives where the payload is these attributes: them, unless memory runs out
 abbrev pub GivesAttrs : Result (List Attr) AttrsFault → List Attr → Type 0

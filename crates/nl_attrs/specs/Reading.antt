@@ -66,4 +66,4 @@ pub record TakesMessage (held : List ℕ) (m : Msg) (n : ℕ) : Type 0 where
 abbrev pub IsSizeFault : List Attr → EncodeFault → Type 0
 IsSizeFault attrs (encode_faults.Overlong n) =
     IsFirstLong attrs n ⊎ (All IsShort attrs × IsTooLong (20 + length (attrs_bytes attrs)) n)
-IsSizeFault attrs encode_faults.OutOfMemory = Unit {0}
+IsSizeFault attrs encode_faults.OutOfMemory = ⊥

@@ -53,7 +53,7 @@ fn done_bytes(
     code: i32,
 ) -> Result<Bytes, OutOfMemory>
     ensures bytes { IfOk result (λ bytes. bytes ≡ spelled (Msg.Done flags seq pid code)) }
-    ensures message { OnOk result (IsMsg (Msg.Done flags seq pid code)) }
+    ensures message { IsMsg (Msg.Done flags seq pid code) }
 {
     let mut out = Bytes::new(alloc);
     let head = Head {
@@ -78,7 +78,7 @@ fn error_bytes(
     request: &[u8; 16],
 ) -> Result<Bytes, OutOfMemory>
     ensures bytes { IfOk result (λ bytes. bytes ≡ spelled (Msg.Error flags seq pid code request.now)) }
-    ensures message { OnOk result (IsMsg (Msg.Error flags seq pid code request.now)) }
+    ensures message { IsMsg (Msg.Error flags seq pid code request.now) }
 {
     let mut out = Bytes::new(alloc);
     let head = Head {
@@ -91,6 +91,26 @@ fn error_bytes(
     put_head(&mut out, head)?;
     put_i32(&mut out, code)?;
     out.append(request)?;
+    Ok(out)
+}
+
+/// The bytes of a message of a family with that head.
+fn generic_bytes(
+    alloc: Global,
+    head: Head,
+    cmd: u8,
+    version: u8,
+    attrs: &[Attr],
+) -> Result<Bytes, OutOfMemory>
+    requires kinds { All (λ a. a.kind < 16384) attrs.now }
+    requires short { All IsShort attrs.now }
+    ensures { IfOk result (λ bytes. bytes ≡ head_bytes head.length head.kind head.flags head.seq head.pid
+        ++ (cmd ∷ version ∷ 0 ∷ 0 ∷ attrs_bytes attrs.now)) }
+{
+    let mut out = Bytes::new(alloc);
+    put_head(&mut out, head)?;
+    out.append(&[cmd, version, 0, 0])?;
+    put_attrs(&mut out, attrs)?;
     Ok(out)
 }
 
@@ -116,20 +136,15 @@ pub fn encode(alloc: Global, m: &Msg) -> Result<Bytes, EncodeFault>
         } => {
             let attrs = attrs.as_slice();
             let length = generic_length(attrs)?;
-            let mut out = Bytes::new(alloc);
-            put_head(
-                &mut out,
-                Head {
-                    length,
-                    kind: *family,
-                    flags: *flags,
-                    seq: *seq,
-                    pid: *pid,
-                },
-            )?;
-            out.append(&[*cmd, *version, 0, 0])?;
-            put_attrs(&mut out, attrs)?;
-            Ok(out)
+            let head = Head {
+                length,
+                kind: *family,
+                flags: *flags,
+                seq: *seq,
+                pid: *pid,
+            };
+            let bytes = generic_bytes(alloc, head, *cmd, *version, attrs)?;
+            Ok(bytes)
         }
         Msg::Error {
             flags,

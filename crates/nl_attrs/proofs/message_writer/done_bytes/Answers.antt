@@ -10,3 +10,11 @@ returns-clause-bytes c =
 
 pub returns-clause-message : goal.returns-clause-message
 returns-clause-message c = done_is _ _ _ _ (omega arith) (omega arith) (omega arith) c.ranges.code
+
+pub returns-in_err-put_head-clause-message : goal.returns-in_err-put_head-clause-message
+returns-in_err-put_head-clause-message c =
+    done_is _ _ _ _ (omega arith) (omega arith) (omega arith) c.ranges.code
+
+pub returns-in_err-put_i32-clause-message : goal.returns-in_err-put_i32-clause-message
+returns-in_err-put_i32-clause-message c =
+    done_is _ _ _ _ (omega arith) (omega arith) (omega arith) c.ranges.code

@@ -11,3 +11,15 @@ returns-clause-bytes c =
 pub returns-clause-message : goal.returns-clause-message
 returns-clause-message c =
     error_is _ _ _ _ _ (omega arith) (omega arith) (omega arith) c.ranges.code c.told-request
+
+pub returns-in_err-put_head-clause-message : goal.returns-in_err-put_head-clause-message
+returns-in_err-put_head-clause-message c =
+    error_is _ _ _ _ _ (omega arith) (omega arith) (omega arith) c.ranges.code c.told-request
+
+pub returns-in_err-put_i32-clause-message : goal.returns-in_err-put_i32-clause-message
+returns-in_err-put_i32-clause-message c =
+    error_is _ _ _ _ _ (omega arith) (omega arith) (omega arith) c.ranges.code c.told-request
+
+pub returns-in_err-append-clause-message : goal.returns-in_err-append-clause-message
+returns-in_err-append-clause-message c =
+    error_is _ _ _ _ _ (omega arith) (omega arith) (omega arith) c.ranges.code c.told-request
