@@ -1,0 +1,14 @@
+pub mod Lengths
+pub mod Written
+pub mod Places
+pub mod Taken
+pub mod Apart
+pub mod OneReading
+pub mod AttrLaws
+pub mod Judged
+pub mod ReadBodies
+pub mod Fronts
+pub mod MsgApart
+pub mod MsgLaws
+pub mod FaultLaws
+pub mod StreamLaws

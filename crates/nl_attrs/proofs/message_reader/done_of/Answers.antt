@@ -1,0 +1,15 @@
+use Rattle.std.proofs.Common.{arith}
+use Rattle.nl_attrs.proofs.Places.{IsBytes}
+use Rattle.nl_attrs.proofs.ReadBodies.{done_taken, code_fits, code_as_read}
+use Rattle.nl_attrs.proofs.Written.{done_is}
+use Rattle.nl_attrs.proofs.message_reader.done_of.Goals as goal
+
+pub returns-clause-message : goal.returns-clause-message
+returns-clause-message c =
+    let bytes : IsBytes c.args.body.now = λ i. omega (arith, c.type_inv.body i) in
+    done_is _ _ _ _ (omega arith) (omega arith) (omega arith) (code_fits c.args.body.now _ bytes (code_as_read c.args.body.now _ bytes c.i32_at.ensures))
+
+pub returns-clause-spelled : goal.returns-clause-spelled
+returns-clause-spelled c =
+    let bytes : IsBytes c.args.body.now = λ i. omega (arith, c.type_inv.body i) in
+    done_taken _ _ _ c.args.body.now _ bytes c.requires (code_as_read c.args.body.now _ bytes c.i32_at.ensures)

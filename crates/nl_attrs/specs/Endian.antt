@@ -1,0 +1,17 @@
+-- Numbers in bytes, the lowest byte first.
+use Rattle.std.specs.Prelude.{ℕ, List, take, drop}
+use Rattle.std.specs.Int.{w16, w32, to_le_bytes, from_le_bytes}
+
+-- a number in two bytes, and in four
+unfoldable pub le16 : ℕ → List ℕ
+le16 n = to_le_bytes w16 n
+
+unfoldable pub le32 : ℕ → List ℕ
+le32 n = to_le_bytes w32 n
+
+-- the number in the two or four bytes from place i on
+unfoldable pub u16_at : List ℕ → ℕ → ℕ
+u16_at b i = from_le_bytes w16 (take 2 (drop i b))
+
+unfoldable pub u32_at : List ℕ → ℕ → ℕ
+u32_at b i = from_le_bytes w32 (take 4 (drop i b))

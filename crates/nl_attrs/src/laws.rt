@@ -1,0 +1,62 @@
+//! Laws over all messages and all streams.
+
+ghost use Rattle.std.specs.Prelude.{◌≡◌, ◌++◌, ℕ, List, [], All, Option, None, Some};
+ghost use Rattle.nl_attrs.specs.Attributes.{IsAttr, IsFirstBreach, attr_bytes, attrs_bytes};
+ghost use Rattle.nl_attrs.specs.Faults.{IsFamilyWhole, IsFault, IsUndecided};
+ghost use Rattle.nl_attrs.specs.Messages.{IsMsg, spelled, all_spelled};
+ghost use Rattle.nl_attrs.specs.Streams.{AreMessages, joined};
+ghost use Rattle.nl_attrs.specs.declared.attr.Attr.{Attr};
+ghost use Rattle.nl_attrs.specs.declared.fault.AttrFault.{AttrFault};
+ghost use Rattle.nl_attrs.specs.declared.message.Msg.{Msg};
+
+/// No spelling is a proper prefix of another, so each message and each attribute has a spelling of
+/// its own, and a payload has at most one list of attributes, at most one first broken attribute,
+/// and never both.
+pub fn one_spelling()
+    ensures message { (m n : Msg) (more : List ℕ) → IsMsg m → IsMsg n
+        → spelled m ++ more ≡ spelled n → (more ≡ []) × (m ≡ n) }
+    ensures attr { (a b : Attr) (more : List ℕ) → IsAttr a → IsAttr b
+        → attr_bytes a ++ more ≡ attr_bytes b → (more ≡ []) × (a ≡ b) }
+    ensures list { (xs ys : List Attr) → All IsAttr xs → All IsAttr ys
+        → attrs_bytes xs ≡ attrs_bytes ys → xs ≡ ys }
+    ensures place { (payload : List ℕ) (j k : ℕ)
+        → IsFirstBreach payload j → IsFirstBreach payload k → j ≡ k }
+    ensures never_both { (xs : List Attr) (k : ℕ) → All IsAttr xs
+        → IsFirstBreach (attrs_bytes xs) k → ⊥ }
+{}
+
+/// At the front of a stream is one of three: a message, a fault, or what is undecided, which takes
+/// no memory.
+pub fn one_verdict()
+    ensures whole { (m : Msg) (rest : List ℕ) → IsMsg m → IsUndecided (spelled m ++ rest) → ⊥ }
+    ensures sound { (m : Msg) (rest : List ℕ) (f : AttrFault) → IsMsg m
+        → IsFault (spelled m ++ rest) f → ⊥ }
+    ensures decided { (held : List ℕ) (f : AttrFault) → IsUndecided held → IsFault held f → ⊥ }
+    ensures waits { (held : List ℕ) → IsUndecided held → IsFamilyWhole held → ⊥ }
+    ensures fault { (held : List ℕ) (f g : AttrFault) → IsFault held f → IsFault held g → f ≡ g }
+{}
+
+/// A stream has one list of messages and at most one fault, whatever the cut of its pieces. The
+/// list is the longest one whose spellings the stream begins with, it only grows as the stream
+/// goes on, and after a fault nothing changes.
+pub fn one_stream()
+    ensures messages { (ps qs : List (List ℕ)) (ms ns : List Msg) (e f : Option AttrFault)
+        → joined ps ≡ joined qs → AreMessages (joined ps) ms e → AreMessages (joined qs) ns f
+        → ms ≡ ns }
+    ensures fault { (ps qs : List (List ℕ)) (ms ns : List Msg) (e f : Option AttrFault)
+        → joined ps ≡ joined qs → AreMessages (joined ps) ms e → AreMessages (joined qs) ns f
+        → e ≡ f }
+    ensures longest { (stream left : List ℕ) (ms ns : List Msg) (f : Option AttrFault)
+        → AreMessages stream ns f → All IsMsg ms → stream ≡ all_spelled ms ++ left
+        → (more : List Msg) × (ns ≡ ms ++ more) }
+    ensures goes_on { (stream more : List ℕ) (ms ns : List Msg) (e f : Option AttrFault)
+        → AreMessages stream ms e → AreMessages (stream ++ more) ns f
+        → (others : List Msg) × (ns ≡ ms ++ others) }
+    ensures fault_ends { (stream more : List ℕ) (ms : List Msg) (f : AttrFault)
+        → AreMessages stream ms (Some f) → AreMessages (stream ++ more) ms (Some f) }
+{}
+
+/// What is spelled is read back: the messages of the joined spellings are those that were spelled.
+pub fn reads_back()
+    ensures { (ms : List Msg) → All IsMsg ms → AreMessages (all_spelled ms) ms None }
+{}

@@ -1,0 +1,71 @@
+//! Numbers in bytes, the lowest byte first.
+
+ghost use Rattle.std.specs.Prelude.{◌≡◌, ◌+◌, ◌≤◌, ◌++◌, length, OnOk};
+ghost use Rattle.std.specs.Int.{w32, cast_signed, cast_unsigned};
+ghost use Rattle.nl_attrs.specs.Endian.{le16, le32, u16_at, u32_at};
+
+use reg_base::{Bytes, OutOfMemory};
+
+/// Writes a number in two bytes.
+#[tactic(auto, unfolding(crate::specs::Endian::le16))]
+pub fn put_u16(out: &mut Bytes, number: u16) -> Result<(), OutOfMemory>
+    ensures { OnOk result (out.new ≡ out.old ++ le16 number) }
+{
+    out.append(&number.to_le_bytes())?;
+    Ok(())
+}
+
+/// Writes a number in four bytes.
+#[tactic(auto, unfolding(crate::specs::Endian::le32))]
+pub fn put_u32(out: &mut Bytes, number: u32) -> Result<(), OutOfMemory>
+    ensures { OnOk result (out.new ≡ out.old ++ le32 number) }
+{
+    out.append(&number.to_le_bytes())?;
+    Ok(())
+}
+
+/// Writes a signed number in four bytes.
+#[tactic(auto, unfolding(crate::specs::Endian::le32))]
+pub fn put_i32(out: &mut Bytes, number: i32) -> Result<(), OutOfMemory>
+    ensures { OnOk result (out.new ≡ out.old ++ le32 (cast_unsigned w32 number)) }
+{
+    out.append(&number.to_le_bytes())?;
+    Ok(())
+}
+
+/// The number in the two bytes from a place on.
+#[tactic(auto, unfolding(crate::specs::Endian::u16_at))]
+pub fn u16_at(bytes: &[u8], place: usize) -> u16
+    requires { place + 2 ≤ length bytes.now }
+    ensures { result ≡ u16_at bytes.now place }
+{
+    u16::from_le_bytes([bytes[place], bytes[place + 1]])
+}
+
+/// The number in the four bytes from a place on.
+#[tactic(auto, unfolding(crate::specs::Endian::u32_at))]
+pub fn u32_at(bytes: &[u8], place: usize) -> u32
+    requires { place + 4 ≤ length bytes.now }
+    ensures { result ≡ u32_at bytes.now place }
+{
+    u32::from_le_bytes([
+        bytes[place],
+        bytes[place + 1],
+        bytes[place + 2],
+        bytes[place + 3],
+    ])
+}
+
+/// The signed number in the four bytes from a place on.
+#[tactic(auto, unfolding(crate::specs::Endian::u32_at))]
+pub fn i32_at(bytes: &[u8], place: usize) -> i32
+    requires { place + 4 ≤ length bytes.now }
+    ensures { result ≡ cast_signed w32 (u32_at bytes.now place) }
+{
+    i32::from_le_bytes([
+        bytes[place],
+        bytes[place + 1],
+        bytes[place + 2],
+        bytes[place + 3],
+    ])
+}
