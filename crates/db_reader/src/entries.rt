@@ -1,0 +1,70 @@
+//! Entries of a file.
+
+ghost use Rattle.std.specs.Prelude.{◌+◌, ◌≤◌, MatchResult, OnOk, length};
+ghost use Rattle.rule_tables.specs.Databases.{HasCode, Inserts, IsDb, IsDomain};
+ghost use Rattle.rule_tables.specs.FileFormat.{AreEntries, ReadsAs, entry_place};
+ghost use Rattle.rule_tables.specs.FileFaults.{HasHeader};
+ghost use Rattle.db_reader.specs.Parts.{IsEntriesStop, IsEntryStop, IsNewEntry};
+
+use crate::collection::read_collection;
+use crate::fault::ReadFault;
+use crate::numbers::{target_at, u8_at, u16_at};
+use freq_range::OutOfMemory;
+use rule_tables::{Alpha2, Db, DbFault, DbInsertFault, Domain};
+use std::alloc::Global;
+
+/// The domain of the entry at that place, whose number is `k`, where the database has the domains
+/// of the entries before it.
+fn read_entry(alloc: Global, bytes: &[u8], k: usize, db: &Db) -> Result<Domain, ReadFault>
+    requires in_file { entry_place k + 4 ≤ length bytes.now }
+    requires so_far { AreEntries bytes.now k db.now }
+    ensures { MatchResult result (IsNewEntry bytes.now k db.now) (IsEntryStop bytes.now k) }
+{
+    let place = 8 + 4 * k;
+    let alpha2 = Alpha2 {
+        a: u8_at(bytes, place),
+        b: u8_at(bytes, place + 1),
+    };
+    if !alpha2.is_code() {
+        return Err(ReadFault::Bad(DbFault::BadAlpha2(alpha2.a, alpha2.b)));
+    }
+    if db.find(alpha2).is_some() {
+        return Err(ReadFault::Bad(DbFault::CountryTwice(alpha2)));
+    }
+    let domain = read_collection(alloc, bytes, target_at(bytes, place + 2), alpha2)?;
+    Ok(domain)
+}
+
+/// Puts a domain of a new code into the database, which memory alone may refuse.
+fn put(db: &mut Db, domain: Domain) -> Result<(), OutOfMemory>
+    requires fresh { HasCode db.old domain.alpha2 → ⊥ }
+    requires domain { IsDomain domain }
+    ensures put { OnOk result (Inserts db.old db.new domain) }
+    ensures db { IsDb db.new }
+{
+    match db.insert(domain) {
+        Ok(()) => Ok(()),
+        Err(DbInsertFault::OutOfMemory) => Err(OutOfMemory),
+        Err(DbInsertFault::Twice) => unreachable!(),
+        Err(DbInsertFault::BadCode) => unreachable!(),
+        Err(DbInsertFault::Repeated(_)) => unreachable!(),
+        Err(DbInsertFault::Bad(_)) => unreachable!(),
+    }
+}
+
+/// The domains of all entries. The list of entries ends where fewer than four bytes are left, or at
+/// an entry whose pointer is 0.
+pub fn read_entries(alloc: Global, bytes: &[u8]) -> Result<Db, ReadFault>
+    requires { HasHeader bytes.now }
+    ensures { MatchResult result (ReadsAs bytes.now) (IsEntriesStop bytes.now) }
+{
+    let mut db = Db::new(alloc);
+    for k in 0..(bytes.len() - 8) / 4 {
+        if u16_at(bytes, 8 + 4 * k + 2) == 0 {
+            return Ok(db);
+        }
+        let domain = read_entry(alloc, bytes, k, &db)?;
+        put(&mut db, domain)?;
+    }
+    Ok(db)
+}
