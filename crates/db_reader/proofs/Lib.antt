@@ -1,0 +1,4 @@
+pub mod Collected
+pub mod Entered
+pub mod Records
+pub mod Stops

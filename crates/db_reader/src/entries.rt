@@ -1,9 +1,10 @@
 //! Entries of a file.
 
-ghost use Rattle.std.specs.Prelude.{◌+◌, ◌≤◌, MatchResult, OnOk, length};
+ghost use Rattle.std.specs.Prelude.{◌≡◌, ◌+◌, ◌≤◌, MatchResult, OnOk, length};
 ghost use Rattle.rule_tables.specs.Databases.{HasCode, Inserts, IsDb, IsDomain};
 ghost use Rattle.rule_tables.specs.FileFormat.{AreEntries, ReadsAs, entry_place};
-ghost use Rattle.rule_tables.specs.FileFaults.{HasHeader};
+ghost use Rattle.rule_tables.specs.FileFaults.{HasHeader, IsCodeFault, code_at};
+ghost use Rattle.rule_tables.specs.Code.{IsCode};
 ghost use Rattle.db_reader.specs.Parts.{IsEntriesStop, IsEntryStop, IsNewEntry};
 
 use crate::collection::read_collection;
@@ -13,25 +14,45 @@ use freq_range::OutOfMemory;
 use rule_tables::{Alpha2, Db, DbFault, DbInsertFault, Domain};
 use std::alloc::Global;
 
-/// The domain of the entry at that place, whose number is `k`, where the database has the domains
-/// of the entries before it.
+/// The code in the two bytes at that place.
+fn code_at(bytes: &[u8], place: usize) -> Alpha2
+    requires { place + 2 ≤ length bytes.now }
+    ensures { result ≡ code_at bytes.now place }
+{
+    Alpha2 {
+        a: u8_at(bytes, place),
+        b: u8_at(bytes, place + 1),
+    }
+}
+
+/// The code of the entry number `k`, which none of the entries before it has: the database holds
+/// their domains.
+fn read_code(bytes: &[u8], k: usize, db: &Db) -> Result<Alpha2, DbFault>
+    requires in_file { entry_place k + 4 ≤ length bytes.now }
+    requires so_far { AreEntries bytes.now k db.now }
+    ensures { MatchResult result
+        (λ code. (code ≡ code_at bytes.now (entry_place k)) × IsCode code × (HasCode db.now code → ⊥))
+        (IsCodeFault bytes.now k) }
+{
+    let alpha2 = code_at(bytes, 8 + 4 * k);
+    if !alpha2.is_code() {
+        return Err(DbFault::BadAlpha2(alpha2.a, alpha2.b));
+    }
+    match db.find(alpha2) {
+        Some(_domain) => Err(DbFault::CountryTwice(alpha2)),
+        None => Ok(alpha2),
+    }
+}
+
+/// The domain of the entry number `k`, where the database holds those of the entries before it.
 fn read_entry(alloc: Global, bytes: &[u8], k: usize, db: &Db) -> Result<Domain, ReadFault>
     requires in_file { entry_place k + 4 ≤ length bytes.now }
     requires so_far { AreEntries bytes.now k db.now }
     ensures { MatchResult result (IsNewEntry bytes.now k db.now) (IsEntryStop bytes.now k) }
 {
-    let place = 8 + 4 * k;
-    let alpha2 = Alpha2 {
-        a: u8_at(bytes, place),
-        b: u8_at(bytes, place + 1),
-    };
-    if !alpha2.is_code() {
-        return Err(ReadFault::Bad(DbFault::BadAlpha2(alpha2.a, alpha2.b)));
-    }
-    if db.find(alpha2).is_some() {
-        return Err(ReadFault::Bad(DbFault::CountryTwice(alpha2)));
-    }
-    let domain = read_collection(alloc, bytes, target_at(bytes, place + 2), alpha2)?;
+    let alpha2 = read_code(bytes, k, db)?;
+    let place = target_at(bytes, 8 + 4 * k + 2);
+    let domain = read_collection(alloc, bytes, place, alpha2)?;
     Ok(domain)
 }
 
