@@ -3,6 +3,7 @@ use Rattle.std.proofs.Common.{◌≡◌, ◌≢◌, ℕ, suc, ◌+◌, ◌*◌, 
 use Rattle.std.proofs.lemmas.Bool.{cases_lt}
 use Rattle.std.proofs.lemmas.List.Elements.{All-contains, All-weaker}
 use Rattle.freq_range.specs.First.{IsFirst}
+use Rattle.rule_tables.proofs.Inserted.{same_key}
 use Rattle.rule_tables.proofs.InOrder.{All-insert, Contains-insert, Contains-inserted}
 use Rattle.rule_tables.specs.Code.{IsCode, key}
 use Rattle.rule_tables.specs.Databases.{HasCode, Inserts, IsDb}
@@ -20,20 +21,6 @@ use Rattle.db_reader.proofs.Records.{code_is, good_entry, is_domain}
 -- the two bytes at a place, read as a number, are the key of their code
 pub key_at : (b : List ℕ) (i : ℕ) → u16_at b i ≡ key (code_at b i)
 key_at b i = let next : suc i ≡ i + 1 = sym (add-one i) in rw next (omega arith)
-
-low_byte : (c : Alpha2) → IsCode c → c.b < 256
-low_byte c (inl letters) = omega (arith, letters.1)
-low_byte c (inr zeros) = omega (arith, zeros.1)
-
-same_bytes : (c d : Alpha2) → c.a ≡ d.a → c.b ≡ d.b → c ≡ d
-same_bytes c d p q = λ i. record { a = p i; b = q i }
-
--- codes of one key are one
-pub same_key : (c d : Alpha2) → IsCode c → IsCode d → key c ≡ key d → c ≡ d
-same_key c d is_c is_d same =
-    let low_c = low_byte c is_c in
-    let low_d = low_byte d is_d in
-    same_bytes c d (omega (arith, same, low_c, low_d)) (omega (arith, same, low_c, low_d))
 
 -- where a domain of the entries has the code of the next entry, that one is there twice
 pub twice_from_code : (b : List ℕ) (k : ℕ) (ds : List Domain) (c : Alpha2) → AreEntries b k ds → c ≡ code_at b (entry_place k) → HasCode ds c → IsTwice b k

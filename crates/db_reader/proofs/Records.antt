@@ -111,7 +111,7 @@ same_code c first second p q = λ i. record { a = p i; b = q i }
 pub code_is : (b : List ℕ) (i : ℕ) (d : Domain) → EntryAt b i d → d.alpha2 ≡ code_at b i
 code_is b i d entry = same_code d.alpha2 (u8_at b i) (u8_at b (i + 1)) entry.first entry.second
 
-good_code : (b : List ℕ) (k : ℕ) (fault : DbFault) → IsCode (code_at b (entry_place k)) → (IsTwice b k → ⊥) → IsCodeFault b k fault → ⊥
+pub good_code : (b : List ℕ) (k : ℕ) (fault : DbFault) → IsCode (code_at b (entry_place k)) → (IsTwice b k → ⊥) → IsCodeFault b k fault → ⊥
 good_code b k (BadAlpha2 first second) code once fault = fault.2 code
 good_code b k (CountryTwice c) code once fault = once fault.2
 good_code b k fault code once is = absurd is

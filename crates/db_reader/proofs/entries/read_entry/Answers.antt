@@ -1,6 +1,5 @@
-use Rattle.std.proofs.Common.{◌≡◌, ◌+◌, sym, subst, ◌∙◌}
-use Rattle.rule_tables.specs.Code.{IsCode}
-use Rattle.rule_tables.specs.FileFormat.{CollectionAt, entry_place, target_at}
+use Rattle.std.proofs.Common.{subst}
+use Rattle.rule_tables.specs.FileFormat.{CollectionAt}
 use Rattle.db_reader.specs.Parts.{IsCollectionStop}
 use Rattle.db_reader.proofs.Entered.{entry_stop, new_entry}
 use Rattle.db_reader.proofs.Stops.{handed_on}
