@@ -1,13 +1,12 @@
 -- The rules of a collection, read one after another.
-use Rattle.std.proofs.Common.{◌≡◌, ℕ, ◌+◌, ◌*◌, ◌<◌, ◌≤◌, List, [], ◌∷◌, ◌++◌, length, get_or, reverse, Contains, arith, refl, sym, ◌∙◌, subst, inl, inr}
+use Rattle.std.proofs.Common.{◌≡◌, ℕ, ◌+◌, ◌*◌, ◌<◌, List, [], ◌∷◌, ◌++◌, length, reverse, arith, refl, sym, subst, inl, inr}
 use Rattle.std.proofs.lemmas.Bool.{cases_lt}
 use Rattle.std.proofs.lemmas.List.{get_or_append_left, get_or_push, length-append, reverse-append}
-use Rattle.freq_range.proofs.Members.{Contains-reverse, Contains-from_reverse}
 use Rattle.freq_range.specs.First.{IsFirst}
 use Rattle.freq_range.specs.declared.rule.Rule.{Rule}
 use Rattle.rule_tables.proofs.Dropped.{DropsRepeats-keeps, DropsRepeats-only}
 use Rattle.rule_tables.specs.FileFormat.{u8_at, DropsRepeats, RuleAt, RulesAt, pointers_of, target_at}
-use Rattle.rule_tables.specs.FileFaults.{HasCollection, HasRegion, IsCollectionFault, IsFaultyRule, rule_place}
+use Rattle.rule_tables.specs.FileFaults.{HasRegion, IsCollectionFault, IsFaultyRule, rule_place}
 use Rattle.rule_tables.specs.declared.code.Alpha2.{Alpha2}
 use Rattle.rule_tables.specs.declared.file_fault.DbFault.{DbFault}
 use Rattle.db_reader.specs.Parts.{AreFirstRules, IsCollectionStop, IsPushedNew, IsRuleStop, IsRulesFault, IsRulesStop, rule_fault}

@@ -1,14 +1,13 @@
 -- The entries of a file, read one after another.
-use Rattle.std.proofs.Common.{◌≡◌, ◌≢◌, ℕ, suc, ◌+◌, ◌*◌, ◌<◌, ◌≤◌, List, length, All, Contains, add-one, arith, refl, sym, ◌∙◌, ap, subst, inl, inr}
+use Rattle.std.proofs.Common.{◌≡◌, ◌≢◌, ℕ, suc, ◌+◌, ◌<◌, ◌≤◌, List, length, All, Contains, add-one, arith, sym, ◌∙◌, ap, subst, inl, inr}
 use Rattle.std.proofs.lemmas.Bool.{cases_lt}
 use Rattle.std.proofs.lemmas.List.Elements.{All-contains, All-weaker}
-use Rattle.freq_range.specs.First.{IsFirst}
 use Rattle.rule_tables.proofs.Inserted.{same_key}
 use Rattle.rule_tables.proofs.InOrder.{All-insert, Contains-insert, Contains-inserted}
 use Rattle.rule_tables.specs.Code.{IsCode, key}
-use Rattle.rule_tables.specs.Databases.{HasCode, Inserts, IsDb}
-use Rattle.rule_tables.specs.FileFormat.{u8_at, u16_at, AreEntries, CollectionAt, EndsAt, EntryAt, entry_place, target_at}
-use Rattle.rule_tables.specs.FileFaults.{HasEntryFault, HasNewCode, IsCollectionFault, IsEntryFault, IsFirstEntryFault, IsInList, IsTwice, code_at}
+use Rattle.rule_tables.specs.Databases.{HasCode, Inserts}
+use Rattle.rule_tables.specs.FileFormat.{u16_at, AreEntries, CollectionAt, EndsAt, EntryAt, entry_place, target_at}
+use Rattle.rule_tables.specs.FileFaults.{HasEntryFault, IsCollectionFault, IsInList, IsTwice, code_at}
 use Rattle.rule_tables.specs.declared.code.Alpha2.{Alpha2}
 use Rattle.rule_tables.specs.declared.domain.Domain.{Domain}
 use Rattle.db_reader.specs.Parts.{IsCollectionStop, IsEntriesStop, IsEntryStop, IsNewEntry}
@@ -96,7 +95,7 @@ no_fault_before b k ds are j below (fault, is) =
     let (d, among, entry) = are.each j below in
     good_entry b j d fault entry (λ twice. are.once twice.0 j twice.1 below twice.2) is
 
-in_list_more : (b : List ℕ) (k : ℕ) → ((j : ℕ) → j < k → EndsAt b j → ⊥) → (EndsAt b k → ⊥) → IsInList b k
+pub in_list_more : (b : List ℕ) (k : ℕ) → ((j : ℕ) → j < k → EndsAt b j → ⊥) → (EndsAt b k → ⊥) → IsInList b k
 in_list_more b k going here j upto ends = elim (cases_lt j k) [
   | inl less ↦ going j less ends
   | inr more ↦ let last : j ≡ k = omega (arith, upto, more) in here (subst (EndsAt b) last ends)

@@ -1,6 +1,6 @@
 -- Bytes say at most one database.
-use Rattle.std.proofs.Common.{◌≡◌, ℕ, ◌+◌, ◌*◌, ◌<◌, ◌≤◌, List, [], ◌∷◌, length, get_or, reverse, Contains, Option, Some, None, arith, refl, sym, ◌∙◌, ap, subst, inl, inr}
-use Rattle.std.proofs.lemmas.List.{ext_get_or, get_or_default}
+use Rattle.std.proofs.Common.{◌≡◌, ℕ, ◌+◌, ◌*◌, ◌<◌, List, [], ◌∷◌, length, get_or, reverse, Contains, Option, Some, None, arith, refl, sym, ◌∙◌, ap, subst}
+use Rattle.std.proofs.lemmas.List.{ext_get_or}
 use Rattle.std.proofs.lemmas.List.Elements.{All-contains}
 use Rattle.freq_range.specs.declared.rule.Rule.{Rule}
 use Rattle.freq_range.specs.declared.wmm.Wmm.{Wmm}
@@ -25,7 +25,7 @@ WmmEntryAt-unique b i d e p q = λ n. record {
   cot_ms = (p.cot ∙ sym q.cot) n;
 }
 
-WmmAt-unique : (b : List ℕ) (i : ℕ) (v w : Wmm) → WmmAt b i v → WmmAt b i w → v ≡ w
+pub WmmAt-unique : (b : List ℕ) (i : ℕ) (v w : Wmm) → WmmAt b i v → WmmAt b i w → v ≡ w
 WmmAt-unique b i v w p q = λ n. record {
   vo_c = WmmEntryAt-unique b i v.vo_c w.vo_c p.vo_c q.vo_c n;
   vi_c = WmmEntryAt-unique b (i + 4) v.vi_c w.vi_c p.vi_c q.vi_c n;

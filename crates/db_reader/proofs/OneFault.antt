@@ -1,10 +1,10 @@
 -- Bytes have at most one fault, and none where they say a database.
-use Rattle.std.proofs.Common.{◌≡◌, ◌≢◌, ℕ, ◌+◌, ◌*◌, ◌<◌, ◌≤◌, List, length, arith, refl, sym, ◌∙◌, ap, subst, inl, inr}
+use Rattle.std.proofs.Common.{◌≡◌, ℕ, ◌+◌, ◌<◌, ◌≤◌, List, arith, sym, ◌∙◌, ap, subst, inl, inr}
 use Rattle.std.proofs.lemmas.Bool.{cases_lt, cases_order}
 use Rattle.freq_range.specs.First.{IsFirst}
 use Rattle.rule_tables.specs.Code.{IsCode}
-use Rattle.rule_tables.specs.FileFormat.{u8_at, u32_at, AreEntries, EndsAt, ReadsAs, entry_place, target_at}
-use Rattle.rule_tables.specs.FileFaults.{HasEntryFault, HasHeader, HasRule, IsCodeFault, IsCollectionFault, IsDbFault, IsEntryFault, IsFaultyRule, IsFirstEntryFault, IsHeaderFault, IsTwice, code_at, rule_place}
+use Rattle.rule_tables.specs.FileFormat.{u8_at, AreEntries, EndsAt, ReadsAs, entry_place, target_at}
+use Rattle.rule_tables.specs.FileFaults.{HasEntryFault, HasHeader, HasRule, IsCodeFault, IsCollectionFault, IsDbFault, IsEntryFault, IsFaultyRule, IsFirstEntryFault, IsHeaderFault, code_at, rule_place}
 use Rattle.rule_tables.specs.declared.code.Alpha2.{Alpha2}
 use Rattle.rule_tables.specs.declared.domain.Domain.{Domain}
 use Rattle.rule_tables.specs.declared.file_fault.DbFault.{DbFault}

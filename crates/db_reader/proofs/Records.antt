@@ -1,8 +1,7 @@
 -- Nothing is wrong with a record that is read.
-use Rattle.std.proofs.Common.{◌≡◌, ℕ, ◌+◌, ◌*◌, ◌<◌, ◌≤◌, ◌⊎◌, List, [], ◌∷◌, length, get_or, reverse, Contains, Option, Some, None, IfSome, arith, refl, sym, subst, ap, inl, inr}
+use Rattle.std.proofs.Common.{◌≡◌, ℕ, ◌+◌, ◌<◌, ◌≤◌, ◌⊎◌, List, [], ◌∷◌, length, get_or, reverse, Contains, Option, Some, None, IfSome, arith, subst, inl, inr}
 use Rattle.std.proofs.lemmas.List.{length-reverse}
 use Rattle.std.proofs.lemmas.List.Elements.{Contains-get_or}
-use Rattle.freq_range.specs.First.{IsFirst}
 use Rattle.freq_range.specs.Valid.{IsValidRule, IsValidWmm}
 use Rattle.freq_range.specs.declared.rule.Rule.{Rule}
 use Rattle.freq_range.specs.declared.wmm.Wmm.{Wmm}
@@ -10,9 +9,8 @@ use Rattle.freq_range.proofs.Members.{Contains-head, Contains-from_reverse}
 use Rattle.rule_tables.proofs.Dropped.{DropsRepeats-few, DropsRepeats-keeps, DropsRepeats-only, dropped_distinct}
 use Rattle.rule_tables.specs.Code.{IsCode}
 use Rattle.rule_tables.specs.Databases.{IsDomain}
-use Rattle.rule_tables.specs.Domains.{AreRules}
-use Rattle.rule_tables.specs.FileFormat.{u8_at, u32_at, CollectionAt, DropsRepeats, EntryAt, NamesWmm, RuleAt, RulesAt, entry_place, pointers_of, region_number, target_at}
-use Rattle.rule_tables.specs.FileFaults.{HasCollection, HasNewCode, HasRule, IsCodeFault, IsCollectionFault, IsEntryFault, IsFaultyRule, IsTwice, NamesBadWmm, code_at, rule_place}
+use Rattle.rule_tables.specs.FileFormat.{u8_at, CollectionAt, DropsRepeats, EntryAt, NamesWmm, RuleAt, RulesAt, entry_place, pointers_of, region_number, target_at}
+use Rattle.rule_tables.specs.FileFaults.{HasCollection, HasRule, IsCodeFault, IsCollectionFault, IsEntryFault, IsFaultyRule, IsTwice, NamesBadWmm, code_at, rule_place}
 use Rattle.rule_tables.specs.declared.code.Alpha2.{Alpha2}
 use Rattle.rule_tables.specs.declared.code.Region.{Region}
 use Rattle.rule_tables.specs.declared.code.Region.TheVariants.{Unset, Fcc, Etsi, Jp}

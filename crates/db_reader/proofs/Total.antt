@@ -1,11 +1,12 @@
 -- Each list of bytes says a database or has a fault.
-use Rattle.std.proofs.Common.{◌≡◌, ◌≢◌, ℕ, zero, suc, ◌+◌, ◌-◌, ◌*◌, ◌^◌, ◌<◌, ◌≤◌, ◌⊎◌, Bool, true, false, if◌then◌else◌, nat_le, List, [], ◌∷◌, ◌++◌, length, get_or, insert, slice_index, All, Contains, Option, Some, None, IfSome, arith, refl, sym, ◌∙◌, ap, subst, inl, inr}
+use Rattle.std.proofs.Common.{◌≡◌, ℕ, zero, suc, ◌+◌, ◌-◌, ◌*◌, ◌/◌, ◌%◌, ◌^◌, ◌<◌, ◌≤◌, ◌⊎◌, Bool, true, false, if◌then◌else◌, nat_le, List, [], ◌∷◌, ◌++◌, length, get_or, insert, slice_index, All, Option, Some, None, IfSome, arith, refl, sym, subst, inl, inr}
 use Rattle.std.proofs.lemmas.Bool.{cases_eq, cases_lt}
+use Rattle.std.proofs.lemmas.List.{get_or_past}
 use Rattle.byteorder.specs.Numbers.{big_from-lt}
 use Rattle.freq_range.proofs.Deciding.{Tells, Told, tells_pair, tells_through, told_among, told_any, told_as, told_both, told_le, told_lt}
 use Rattle.freq_range.proofs.ToldRules.{tells_rule, told_wmm}
 use Rattle.freq_range.specs.First.{IsFirst}
-use Rattle.freq_range.specs.Valid.{IsValidRule, IsValidWmm}
+use Rattle.freq_range.specs.Valid.{IsValidWmm}
 use Rattle.freq_range.specs.declared.rule.Rule.{Rule}
 use Rattle.freq_range.specs.declared.wmm.Wmm.{Wmm}
 use Rattle.freq_range.specs.declared.wmm.WmmEntry.{WmmEntry}
@@ -13,14 +14,14 @@ use Rattle.rule_tables.proofs.Inserted.{IsDb-insert}
 use Rattle.rule_tables.specs.Code.{IsCapital, IsCode, key}
 use Rattle.rule_tables.specs.Databases.{HasCode, Inserts, IsDb}
 use Rattle.rule_tables.specs.FileFormat.{u8_at, u16_at, u32_at, AreEntries, CollectionAt, EndsAt, NamesWmm, ReadsAs, RuleAt, WmmAt, WmmEntryAt, entry_place, flags_in, pointers_of, region_number, target_at}
-use Rattle.rule_tables.specs.FileFaults.{HasCollection, HasHeader, HasRegion, HasRule, IsCollectionFault, IsDbFault, IsEntryFault, IsFirstEntryFault, IsHeaderFault, NamesBadWmm, code_at, rule_place}
+use Rattle.rule_tables.specs.FileFaults.{HasCollection, HasHeader, HasRule, IsCollectionFault, IsDbFault, IsEntryFault, IsFirstEntryFault, IsHeaderFault, NamesBadWmm, code_at, rule_place}
 use Rattle.rule_tables.specs.declared.code.Alpha2.{Alpha2}
 use Rattle.rule_tables.specs.declared.code.Region.{Region}
 use Rattle.rule_tables.specs.declared.code.Region.TheVariants.{Unset, Fcc, Etsi, Jp}
 use Rattle.rule_tables.specs.declared.domain.Domain.{Domain}
 use Rattle.rule_tables.specs.declared.file_fault.DbFault.{DbFault}
 use Rattle.rule_tables.specs.declared.file_fault.DbFault.TheVariants.{Short, BadMagic, BadVersion, BadAlpha2, BadCollection, BadRegion, CountryTwice}
-use Rattle.db_reader.specs.Parts.{AreFirstRules, IsNewEntry, IsRuleStop, IsRulesFault}
+use Rattle.db_reader.specs.Parts.{AreFirstRules, IsNewEntry, IsRuleStop, IsRulesFault, rule_fault}
 use Rattle.db_reader.specs.declared.fault.ReadFault.TheVariants.{Bad}
 use Rattle.db_reader.specs.declared.rule_record.RuleStop.{RuleStop}
 use Rattle.db_reader.specs.declared.rule_record.RuleStop.TheVariants.{NoRule, NoWmm}
@@ -57,14 +58,14 @@ told_has_rule b i = told_as
       (told_both (told_lt (u32_at b (i + 4)) (u32_at b (i + 8))) (told_le (u32_at b (i + 12)) (u32_at b (i + 8) - u32_at b (i + 4)))))))
 
 -- the entry of a WMM rule that the bytes from place i on say
-entry_in : List ℕ → ℕ → WmmEntry
+abbrev entry_in : List ℕ → ℕ → WmmEntry
 entry_in b i = record { min_exp = u8_at b i / 16; max_exp = u8_at b i % 16; aifsn = u8_at b (i + 1); cot_ms = u16_at b (i + 2) }
 
 entry_there : (b : List ℕ) (i : ℕ) → WmmEntryAt b i (entry_in b i)
 entry_there b i = record { least_window = refl; greatest_window = refl; aifsn = refl; cot = refl }
 
 -- the WMM rule that they say
-wmm_in : List ℕ → ℕ → Wmm
+abbrev wmm_in : List ℕ → ℕ → Wmm
 wmm_in b i = record {
   vo_c = entry_in b i;
   vi_c = entry_in b (i + 4);
@@ -107,7 +108,7 @@ small_or_zero true n small = small
 small_or_zero false n small = omega arith
 
 -- the rule that the bytes from place i on say, with this WMM rule
-rule_in : List ℕ → ℕ → Option Wmm → Rule
+abbrev rule_in : List ℕ → ℕ → Option Wmm → Rule
 rule_in b i o = record {
   start_khz = u32_at b (i + 4);
   end_khz = u32_at b (i + 8);
@@ -344,7 +345,7 @@ pub some_answer : (b : List ℕ) → All (λ byte. byte < 256) b → ((ds : List
 some_answer b all = elim (told_header b) [
   | inr bad ↦ inr (bad.0, inl bad.1)
   | inl header ↦ elim (some_entries b (are_bytes b all)) [
-    | inl whole ↦ inl (whole.0, record { whole_header = header.whole; magic = header.magic; version = header.version; entries = whole.2; db = whole.1 })
-    | inr bad ↦ inr (bad.0, inr (header, bad.1))
+    | inl whole ↦ inl (whole.0, record { whole_header = header.whole; magic = header.magic; version = header.version; entries = (whole.2, whole.3, whole.4); db = whole.1 })
+    | inr bad ↦ inr (bad.0, inr (header, (bad.1, bad.2)))
   ]
 ]
