@@ -35,8 +35,7 @@ pub collected_more : (b : List ℕ) (i n : ℕ) (old new : List Rule) (r : Rule)
     → AreFirstRules b i (n + 1) new
 collected_more b i n old new r (read, many, are, drops) at pushed =
     let turned : reverse (read ++ r ∷ []) ≡ r ∷ reverse read = reverse-append read (r ∷ []) in
-    let len = length-append read (r ∷ []) in
-    (
+    let len = length-append read (r ∷ []) in (
       read ++ r ∷ [],
       omega (arith, len, many),
       rules_more b (pointers_of b i) read r are (subst (λ m. RuleAt b (target_at b (pointers_of b i + 2 * m)) r) (sym many) at),

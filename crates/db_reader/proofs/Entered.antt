@@ -78,9 +78,9 @@ entered_more b k old new d are entry inserts =
       ];
       all = subst (All (λ e. (j : ℕ) × (j < k + 1) × EntryAt b (entry_place j) e)) (sym put)
           (All-insert (λ e. (j : ℕ) × (j < k + 1) × EntryAt b (entry_place j) e) old i d within
-            (All-weaker (λ e. (j : ℕ) × (j < k) × EntryAt b (entry_place j) e) (λ e. (j : ℕ) × (j < k + 1) × EntryAt b (entry_place j) e)
-              (λ e has. let below = has.1 in (has.0, omega (arith, below), has.2)) old are.all)
-            mine);
+          (All-weaker (λ e. (j : ℕ) × (j < k) × EntryAt b (entry_place j) e) (λ e. (j : ℕ) × (j < k + 1) × EntryAt b (entry_place j) e)
+          (λ e has. let below = has.1 in (has.0, omega (arith, below), has.2)) old are.all)
+          mine);
       once = λ j m less below same. elim (cases_lt m k) [
         | inl earlier ↦ are.once j m less earlier same
         | inr more ↦
@@ -112,9 +112,12 @@ goes_on b k within pointer (inr zero) = pointer zero
 
 pub entries_stop : (b : List ℕ) (k : ℕ) (ds : List Domain) (stop : ReadFault) → AreEntries b k ds → ((j : ℕ) → j < k → EndsAt b j → ⊥) → (EndsAt b k → ⊥)
     → IsEntryStop b k stop → IsEntriesStop b stop
-entries_stop b k ds (Bad fault) are going here is = (k, record {
-  in_list = in_list_more b k going here;
-  first = record { here = (fault, is); none_before = no_fault_before b k ds are };
-  fault_is = is;
-})
+entries_stop b k ds (Bad fault) are going here is = (
+  k,
+  record {
+    in_list = in_list_more b k going here;
+    first = record { here = (fault, is); none_before = no_fault_before b k ds are };
+    fault_is = is;
+  },
+)
 entries_stop b k ds OutOfMemory are going here is = tt

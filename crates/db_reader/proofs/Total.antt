@@ -55,7 +55,7 @@ told_has_rule b i = told_as
     (λ t. record { long = t.0; in_file = t.1.0; above_zero = t.1.1.0; in_order = t.1.1.1.0; wide_enough = t.1.1.1.1 })
     (λ h. (h.long, (h.in_file, (h.above_zero, (h.in_order, h.wide_enough)))))
     (told_both (told_le 16 (u8_at b i)) (told_both (told_le (i + u8_at b i) (length b)) (told_both (told_lt 0 (u32_at b (i + 4)))
-      (told_both (told_lt (u32_at b (i + 4)) (u32_at b (i + 8))) (told_le (u32_at b (i + 12)) (u32_at b (i + 8) - u32_at b (i + 4)))))))
+    (told_both (told_lt (u32_at b (i + 4)) (u32_at b (i + 8))) (told_le (u32_at b (i + 12)) (u32_at b (i + 8) - u32_at b (i + 4)))))))
 
 -- the entry of a WMM rule that the bytes from place i on say
 abbrev entry_in : List ℕ → ℕ → WmmEntry
@@ -179,7 +179,7 @@ told_has_collection b i = told_as
     (λ t. record { long = t.0; in_file = t.1.0; some = t.1.1.0; few = t.1.1.1.0; pointers_in_file = t.1.1.1.1 })
     (λ h. (h.long, (h.in_file, (h.some, (h.few, h.pointers_in_file)))))
     (told_both (told_le 3 (u8_at b i)) (told_both (told_le (i + u8_at b i) (length b)) (told_both (told_lt 0 (u8_at b (i + 1)))
-      (told_both (told_le (u8_at b (i + 1)) 128) (told_le (pointers_of b i + 2 * u8_at b (i + 1)) (length b))))))
+    (told_both (told_le (u8_at b (i + 1)) 128) (told_le (pointers_of b i + 2 * u8_at b (i + 1)) (length b))))))
 
 some_region : (n : ℕ) → ((region : Region) × (n ≡ region_number region)) ⊎ (3 < n)
 some_region zero = inl (Unset, refl)
@@ -199,7 +199,10 @@ some_domain b i c bytes = elim (told_has_collection b i) [
     | inr above ↦ inr (BadRegion c (u8_at b (i + 2)), (refl, has, refl, above))
     | inl region ↦ elim (first_rules b i c bytes (u8_at b (i + 1)) (omega arith)) [
       | inr bad ↦ inr (bad.0, rules_stop b i c (Bad bad.0) (record { collection = has; region = subst (λ n. n ≤ 3) (sym region.1) (low_region region.0) }) bad.1)
-      | inl rules ↦ inl (record { alpha2 = c; region = region.0; rules = rules.0 }, refl, record {
+      | inl rules ↦ inl (
+        record { alpha2 = c; region = region.0; rules = rules.0 },
+        refl,
+        record {
           long = has.long;
           in_file = has.in_file;
           some = has.some;
@@ -207,7 +210,8 @@ some_domain b i c bytes = elim (told_has_collection b i) [
           region_byte = region.1;
           pointers_in_file = has.pointers_in_file;
           rules_read = rules.1;
-        })
+        },
+      )
     ]
   ]
 ]
@@ -303,12 +307,14 @@ scanned_more b n ds d is on entry =
     let place = some_place ds (key d.alpha2) in
     let at = place.1 in
     let es = insert ds place.0 d in
-    let inserts : Inserts ds es d = record { fresh = entry.fresh; is_domain = entry.is_domain; place = (place.0, at.within, refl) } in
-    (es, subst (λ m. AreScanned b m es) (omega arith) (record {
-      db = IsDb-insert ds d place.0 is.db entry.fresh entry.is_domain at.within at.below at.at;
-      are = entered_more b n ds es d is.are entry inserts;
-      going = in_list_before b n is.going on;
-    }))
+    let inserts : Inserts ds es d = record { fresh = entry.fresh; is_domain = entry.is_domain; place = (place.0, at.within, refl) } in (
+      es,
+      subst (λ m. AreScanned b m es) (omega arith) (record {
+        db = IsDb-insert ds d place.0 is.db entry.fresh entry.is_domain at.within at.below at.at;
+        are = entered_more b n ds es d is.are entry inserts;
+        going = in_list_before b n is.going on;
+      }),
+    )
 
 scan : (b : List ℕ) → AreBytes b → (n : ℕ) → ((ds : List Domain) × AreScanned b n ds) ⊎ (AreWhole b ⊎ HasFault b)
 scan b bytes zero = inl ([], none_scanned b)
@@ -318,11 +324,15 @@ scan b bytes (suc n) = elim (scan b bytes n) [
     | inl ends ↦ inr (inl (so_far.0, is.db, n, record { here = ends; none_before = is.going }, is.are))
     | inr on ↦ elim (some_entry b n so_far.0 bytes is.are) [
       | inl entry ↦ inl (scanned_more b n so_far.0 entry.0 is on entry.1)
-      | inr bad ↦ inr (inr (bad.0, n, record {
+      | inr bad ↦ inr (inr (
+        bad.0,
+        n,
+        record {
           in_list = in_list_more b n is.going on;
           first = record { here = bad; none_before = no_fault_before b n so_far.0 is.are };
           fault_is = bad.1;
-        }))
+        },
+      ))
     ]
   ]
 ]

@@ -14,4 +14,4 @@ returns-in_err-rules-in-Some c =
     let byte : u8_at b (i + 2) ≡ region_number c.in-Some.region = sym c.u8_at-number.ensures ∙ c.in-Some.ensures in
     let region : HasRegion b i = record { collection = there; region = subst (λ n. n ≤ 3) (sym byte) (low_region c.in-Some.region) } in
     handed_on c.from_residual.result c.in_err-rules-in-Some.field-0.0 _ _ c.from_residual.ensures.1
-        (rules_stop b i c.args.alpha2 c.in_err-rules-in-Some.field-0.0 region c.in_err-rules-in-Some.ensures)
+    (rules_stop b i c.args.alpha2 c.in_err-rules-in-Some.field-0.0 region c.in_err-rules-in-Some.ensures)

@@ -13,7 +13,7 @@ returns-in-Err c =
     let place : c.target_at.result ≡ rule_place b c.args.place k =
     c.target_at.ensures.target ∙ ap (λ p. target_at b (p + 2 * k)) c.pointers_of-pointers.ensures.pointers in
     collected_stop b c.args.place k c.loop-k.rules c.args.alpha2 c.in-Err.stop _ c.loop-k.invariant within
-        (subst (λ i. IsRuleStop b i c.in-Err.stop) place c.in-Err.ensures) c.rule_fault.ensures
+    (subst (λ i. IsRuleStop b i c.in-Err.stop) place c.in-Err.ensures) c.rule_fault.ensures
 
 pub loop-k-preserved : goal.loop-k-preserved
 loop-k-preserved c =
@@ -22,4 +22,4 @@ loop-k-preserved c =
     let place : c.target_at.result ≡ rule_place b c.args.place k =
     c.target_at.ensures.target ∙ ap (λ p. target_at b (p + 2 * k)) c.pointers_of-pointers.ensures.pointers in
     collected_more b c.args.place k c.loop-k.rules c.push_new.new.rules c.in-Ok.rule c.loop-k.invariant
-        (subst (λ i. RuleAt b i c.in-Ok.rule) place c.in-Ok.ensures) c.in_ok-push_new-in-Ok.ensures
+    (subst (λ i. RuleAt b i c.in-Ok.rule) place c.in-Ok.ensures) c.in_ok-push_new-in-Ok.ensures

@@ -10,7 +10,7 @@ returns-in_err-domain c =
     let k = c.loop-k.k in
     let here : EndsAt b k → ⊥ = goes_on b k (omega (arith, c.loop-k-test.true)) (λ zero. c.if-u16_at-eq0.false (c.u16_at.ensures ∙ zero)) in
     handed_on c.from_residual.result c.in_err-domain.field-0.0 _ _ c.from_residual.ensures.1
-        (entries_stop b k c.loop-k.db c.in_err-domain.field-0.0 c.loop-k.invariant.so_far c.loop-k.invariant.going here c.in_err-domain.ensures)
+    (entries_stop b k c.loop-k.db c.in_err-domain.field-0.0 c.loop-k.invariant.so_far c.loop-k.invariant.going here c.in_err-domain.ensures)
 
 pub loop-k-preserved : goal.loop-k-preserved
 loop-k-preserved c =
