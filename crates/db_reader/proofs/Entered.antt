@@ -1,5 +1,5 @@
 -- The entries of a file, read one after another.
-use Rattle.std.proofs.Common.{◌≡◌, ◌≢◌, ℕ, suc, ◌+◌, ◌<◌, ◌≤◌, List, length, All, Contains, add-one, arith, sym, ◌∙◌, ap, subst, inl, inr}
+use Rattle.std.proofs.Common.{◌≡◌, ℕ, suc, ◌+◌, ◌<◌, List, All, Contains, add-one, arith, sym, ◌∙◌, ap, subst, inl, inr}
 use Rattle.std.proofs.lemmas.Bool.{cases_lt}
 use Rattle.std.proofs.lemmas.List.Elements.{All-contains, All-weaker}
 use Rattle.rule_tables.proofs.Inserted.{same_key}
@@ -105,11 +105,7 @@ in_list_more b k going here j upto ends = elim (cases_lt j k) [
 pub in_list_before : (b : List ℕ) (k : ℕ) → ((j : ℕ) → j < k → EndsAt b j → ⊥) → (EndsAt b k → ⊥) → (j : ℕ) → j < k + 1 → EndsAt b j → ⊥
 in_list_before b k going here j below = in_list_more b k going here j (omega (arith, below))
 
--- an entry that is all in the file, and whose pointer isn't 0
-pub goes_on : (b : List ℕ) (k : ℕ) → entry_place k + 4 ≤ length b → u16_at b (entry_place k + 2) ≢ 0 → EndsAt b k → ⊥
-goes_on b k within pointer (inl short) = omega (arith, within, short)
-goes_on b k within pointer (inr zero) = pointer zero
-
+-- what is wrong with the entry behind those that are read is the fault of the file
 pub entries_stop : (b : List ℕ) (k : ℕ) (ds : List Domain) (stop : ReadFault) → AreEntries b k ds → ((j : ℕ) → j < k → EndsAt b j → ⊥) → (EndsAt b k → ⊥)
     → IsEntryStop b k stop → IsEntriesStop b stop
 entries_stop b k ds (Bad fault) are going here is = (

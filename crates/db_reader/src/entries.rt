@@ -1,8 +1,8 @@
 //! Entries of a file.
 
-ghost use Rattle.std.specs.Prelude.{◌≡◌, ◌+◌, ◌≤◌, MatchResult, OnOk, length};
+ghost use Rattle.std.specs.Prelude.{◌≡◌, ◌+◌, ◌↔◌, IsTrue, ◌≤◌, MatchResult, OnOk, length};
 ghost use Rattle.rule_tables.specs.Databases.{HasCode, Inserts, IsDb, IsDomain};
-ghost use Rattle.rule_tables.specs.FileFormat.{AreEntries, ReadsAs, entry_place};
+ghost use Rattle.rule_tables.specs.FileFormat.{AreEntries, EndsAt, ReadsAs, entry_place};
 ghost use Rattle.rule_tables.specs.FileFaults.{HasHeader, IsCodeFault, code_at};
 ghost use Rattle.rule_tables.specs.Code.{IsCode};
 ghost use Rattle.db_reader.specs.Parts.{IsEntriesStop, IsEntryStop, IsNewEntry};
@@ -73,6 +73,14 @@ fn put(db: &mut Db, domain: Domain) -> Result<(), OutOfMemory>
     }
 }
 
+/// Whether the list of entries ends at number `k`, which is all in the file: its pointer is 0.
+fn ends_at(bytes: &[u8], k: usize) -> bool
+    requires { entry_place k + 4 ≤ length bytes.now }
+    ensures { IsTrue result ↔ EndsAt bytes.now k }
+{
+    u16_at(bytes, 8 + 4 * k + 2) == 0
+}
+
 /// The domains of all entries. The list of entries ends where fewer than four bytes are left, or at
 /// an entry whose pointer is 0.
 pub fn read_entries(alloc: Global, bytes: &[u8]) -> Result<Db, ReadFault>
@@ -81,7 +89,7 @@ pub fn read_entries(alloc: Global, bytes: &[u8]) -> Result<Db, ReadFault>
 {
     let mut db = Db::new(alloc);
     for k in 0..(bytes.len() - 8) / 4 {
-        if u16_at(bytes, 8 + 4 * k + 2) == 0 {
+        if ends_at(bytes, k) {
             return Ok(db);
         }
         let domain = read_entry(alloc, bytes, k, &db)?;

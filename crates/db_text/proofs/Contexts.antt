@@ -3,6 +3,7 @@ use Rattle.std.proofs.Common.{◌≡◌, ◌≢◌, ℕ, ◌<◌, ◌⊎◌, Lis
 use Rattle.std.proofs.lemmas.Option.{none-some, same_Some}
 use Rattle.freq_range.proofs.Deciding.{Told, told_any, told_lt}
 use Rattle.freq_range.proofs.ToldRules.{told_entry}
+use Rattle.freq_range.specs.Valid.{IsValidEntry}
 use Rattle.freq_range.specs.declared.wmm.Wmm.{Wmm}
 use Rattle.rule_tables.proofs.Dropped.{DropsRepeats-unique, dropped}
 use Rattle.rule_tables.specs.declared.code.Alpha2.{Alpha2}
