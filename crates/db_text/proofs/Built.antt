@@ -7,7 +7,8 @@ use Rattle.freq_range.proofs.Members.{Contains-cases, Contains-head, Contains-no
 use Rattle.freq_range.specs.Valid.{IsValidRule, IsValidWmm}
 use Rattle.freq_range.specs.declared.rule.Rule.{Rule}
 use Rattle.freq_range.specs.declared.wmm.Wmm.{Wmm}
-use Rattle.rule_tables.proofs.Dropped.{DropsRepeats-keeps, DropsRepeats-only}
+use Rattle.freq_range.proofs.ToldRules.{told_wmm}
+use Rattle.rule_tables.proofs.Dropped.{DropsRepeats-keeps, DropsRepeats-only, dropped, dropped_distinct}
 use Rattle.rule_tables.specs.Code.{IsCode, key}
 use Rattle.rule_tables.specs.Databases.{HasCode, IsDomain}
 use Rattle.rule_tables.specs.Domains.{AreRules}
@@ -23,8 +24,7 @@ use Rattle.db_text.specs.Forms.Form.{Country, Empty, ItemLine, RuleLine, WmmHead
 use Rattle.db_text.specs.Spelling.{AreCodes}
 use Rattle.db_text.specs.State.{AreSound}
 use Rattle.db_text.specs.TextOf.{IsDomainOf, IsShortAt, StandsFor}
-use Rattle.db_text.proofs.Contexts.{told_named, told_wmm}
-use Rattle.db_text.proofs.EqualRules.{dropped, dropped_distinct}
+use Rattle.db_text.proofs.Contexts.{told_named}
 use Rattle.db_text.proofs.FormLaws.{form_at_more, form_at_top, same_header}
 use Rattle.db_text.proofs.Unique.{sound_from_accepted}
 use Rattle.db_text.proofs.ValidRules.{IsEnded, few_rules, rules_sound}

@@ -1,10 +1,11 @@
 -- What can be told of the lines above one.
 use Rattle.std.proofs.Common.{◌≡◌, ◌≢◌, ℕ, ◌<◌, ◌⊎◌, List, length, Contains, Option, Some, None, refl, sym, subst, ◌∙◌, inl, inr}
 use Rattle.std.proofs.lemmas.Option.{none-some, same_Some}
-use Rattle.freq_range.specs.Valid.{IsValidEntry, IsValidWmm}
+use Rattle.freq_range.proofs.Deciding.{Told, told_any, told_lt}
+use Rattle.freq_range.proofs.ToldRules.{told_entry}
+use Rattle.freq_range.specs.Valid.{IsValidEntry}
 use Rattle.freq_range.specs.declared.wmm.Wmm.{Wmm}
-use Rattle.freq_range.specs.declared.wmm.WmmEntry.{WmmEntry}
-use Rattle.rule_tables.proofs.Dropped.{DropsRepeats-unique}
+use Rattle.rule_tables.proofs.Dropped.{DropsRepeats-unique, dropped}
 use Rattle.rule_tables.specs.declared.code.Alpha2.{Alpha2}
 use Rattle.rule_tables.specs.declared.code.Region.{Region}
 use Rattle.db_text.specs.declared.form.Item.{Item}
@@ -12,37 +13,8 @@ use Rattle.db_text.specs.Faults.{HasItem, HasTooMany, IsContradicted, IsInCountr
 use Rattle.db_text.specs.Forms.{Block, Form, Names, block_of, entry_of, rules_of, wmm_of}
 use Rattle.db_text.specs.Forms.Block.{NoBlock, OfCountries, OfName}
 use Rattle.db_text.specs.Forms.Form.{Country, Empty, ItemLine, RuleLine, WmmHeader}
-use Rattle.db_text.proofs.Deciding.{Told, told_any, told_as, told_both, told_le, told_lt}
-use Rattle.db_text.proofs.EqualRules.{dropped}
 use Rattle.db_text.proofs.FormLaws.{cases_among, same_header}
 use Rattle.db_text.proofs.Unique.{cases_region}
-
--- ---- WMM rules
-
-pub told_entry : (e : WmmEntry) → Told (IsValidEntry e)
-told_entry e = told_as
-    (λ t. record { in_order = t.0; window_fits = t.1.0; waits = t.1.1.0; aifsn_fits = t.1.1.1.0; cot_fits = t.1.1.1.1 })
-    (λ v. (v.in_order, (v.window_fits, (v.waits, (v.aifsn_fits, v.cot_fits)))))
-    (told_both (told_lt e.min_exp e.max_exp) (told_both (told_le e.max_exp 15) (told_both (told_le 1 e.aifsn) (told_both (told_lt e.aifsn _) (told_lt e.cot_ms _)))))
-
--- two valid entries, four
-told_two : (d e : WmmEntry) → Told (IsValidEntry d × IsValidEntry e)
-told_two d e = told_both (told_entry d) (told_entry e)
-
-pub told_wmm : (w : Wmm) → Told (IsValidWmm w)
-told_wmm w = told_as
-    (λ t. record {
-      vo_c = t.0.0.0;
-      vi_c = t.0.0.1;
-      be_c = t.0.1.0;
-      bk_c = t.0.1.1;
-      vo_ap = t.1.0.0;
-      vi_ap = t.1.0.1;
-      be_ap = t.1.1.0;
-      bk_ap = t.1.1.1;
-    })
-    (λ v. (((v.vo_c, v.vi_c), (v.be_c, v.bk_c)), ((v.vo_ap, v.vi_ap), (v.be_ap, v.bk_ap))))
-    (told_both (told_both (told_two w.vo_c w.vi_c) (told_two w.be_c w.bk_c)) (told_both (told_two w.vo_ap w.vi_ap) (told_two w.be_ap w.bk_ap)))
 
 -- ---- the last header
 

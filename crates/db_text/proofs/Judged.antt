@@ -25,7 +25,7 @@ use Rattle.db_text.specs.Spelling.{IsHeader, IsItemLine, IsRuleLine, IsSpelledRu
 use Rattle.db_text.specs.State.{IsBareFault}
 use Rattle.db_text.proofs.Contexts.{same_codes_block, told_contradicted, told_has_item, told_in_countries, told_in_wmm, told_too_many}
 use Rattle.db_text.proofs.EmptyLines.{empty_good}
-use Rattle.db_text.proofs.Deciding.{Told, told_any, told_lt}
+use Rattle.freq_range.proofs.Deciding.{Told, told_any, told_lt}
 use Rattle.db_text.proofs.FormLaws.{same_header}
 use Rattle.db_text.proofs.LineForms.{IsForm-unique, IsSpelledRule-unique, IsWmmHeader-unique, decide_entry, decide_header, decide_opening, decide_rule, decide_wmm_name}
 use Rattle.db_text.proofs.HeaderTaken.{contradicted_stop, header_stop, wmm_bad}

@@ -7,13 +7,11 @@ pub mod Comments
 pub mod Contexts
 pub mod CountryLaws
 pub mod Cuts
-pub mod Deciding
 pub mod Decimals
 pub mod Digits
 pub mod EmptyLines
 pub mod EmptyTaken
 pub mod Ended
-pub mod EqualRules
 pub mod FormLaws
 pub mod Gathering
 pub mod HeaderTaken

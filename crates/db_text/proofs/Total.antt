@@ -3,6 +3,8 @@ use Rattle.std.proofs.Common.{◌≡◌, ℕ, zero, suc, ◌+◌, ◌<◌, ◌�
 use Rattle.std.proofs.lemmas.Bool.{cases_eq}
 use Rattle.std.proofs.lemmas.List.{take_all}
 use Rattle.std.proofs.lemmas.Option.{none-some, same_Some}
+use Rattle.freq_range.proofs.Deciding.{Told, told_any}
+use Rattle.freq_range.proofs.ToldRules.{told_wmm}
 use Rattle.freq_range.specs.Valid.{IsValidWmm}
 use Rattle.freq_range.specs.declared.rule.Rule.{Rule}
 use Rattle.freq_range.specs.declared.wmm.Wmm.{Wmm}
@@ -18,8 +20,6 @@ use Rattle.db_text.specs.Forms.Form.{Country, Empty, ItemLine, RuleLine, WmmHead
 use Rattle.db_text.specs.Lines.{lines_of}
 use Rattle.db_text.specs.TextOf.{IsFirstFault, IsShortAt, IsTextFault, TextOf}
 use Rattle.db_text.proofs.Built.{stands_for_some}
-use Rattle.db_text.proofs.Contexts.{told_wmm}
-use Rattle.db_text.proofs.Deciding.{Told, told_any}
 use Rattle.db_text.proofs.FormLaws.{form_at_within, same_header}
 use Rattle.db_text.proofs.Judged.{judge}
 use Rattle.db_text.proofs.Unique.{reverse_more}

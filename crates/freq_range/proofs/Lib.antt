@@ -1,2 +1,4 @@
+pub mod Deciding
 pub mod Members
 pub mod Powers
+pub mod ToldRules

@@ -1,8 +1,13 @@
 -- Lists of rules in which each rule that stands earlier is dropped.
-use Rattle.std.proofs.Common.{◌≡◌, List, [], ◌∷◌, ◌++◌, Contains, sym, ◌∙◌, ap, subst, inl, inr}
-use Rattle.std.proofs.lemmas.List.Elements.{Contains-append_left, Contains-append_right, Contains-append_cases}
+use Rattle.std.proofs.Common.{◌≡◌, ◌≢◌, ◌≤◌, List, [], ◌∷◌, ◌++◌, length, get_or, Contains, arith, refl, sym, ◌∙◌, ap, subst, inl, inr, ◌⊎◌}
+use Rattle.std.proofs.lemmas.List.{length-append}
+use Rattle.std.proofs.lemmas.List.Elements.{Contains-append_left, Contains-append_right, Contains-append_cases, Contains-get_or}
+use Rattle.std.proofs.lemmas.List.Quantifiers.{all_pairs_push}
+use Rattle.freq_range.proofs.Deciding.{told_among}
 use Rattle.freq_range.proofs.Members.{Contains-cases, Contains-head, Contains-later, Contains-nothing}
+use Rattle.freq_range.proofs.ToldRules.{tells_rule}
 use Rattle.freq_range.specs.declared.rule.Rule.{Rule}
+use Rattle.rule_tables.specs.Domains.{AreDistinct}
 use Rattle.rule_tables.specs.FileFormat.{DropsRepeats}
 
 -- each rule is kept
@@ -42,3 +47,31 @@ DropsRepeats-unique (first ∷ earlier) kept other (rest, before, inl same) (res
 DropsRepeats-unique (first ∷ earlier) kept other (rest, before, inr added) (rest', before', inl same) = absurd (added.0 same.0)
 DropsRepeats-unique (first ∷ earlier) kept other (rest, before, inr added) (rest', before', inr added') =
     added.1 ∙ ap (λ xs. xs ++ first ∷ []) (DropsRepeats-unique earlier rest rest' before before') ∙ sym added'.1
+
+-- some list is kept
+pub dropped : (rules : List Rule) → (kept : List Rule) × DropsRepeats rules kept
+dropped [] = ([], refl)
+dropped (rule ∷ earlier) = let rest = dropped earlier in elim (told_among tells_rule earlier rule) [
+  | inl among ↦ (rest.0, (rest.0, rest.1, inl (among, refl)))
+  | inr none ↦ (rest.0 ++ rule ∷ [], (rest.0, rest.1, inr (none, refl)))
+]
+
+-- no two of those that are kept are equal
+pub dropped_distinct : (rules kept : List Rule) → DropsRepeats rules kept → AreDistinct kept
+dropped_distinct [] kept drops = subst AreDistinct (sym drops) (λ i j d less in_range. absurd (omega (arith, in_range)))
+dropped_distinct (rule ∷ earlier) kept (rest, before, inl same) = subst AreDistinct (sym same.1) (dropped_distinct earlier rest before)
+dropped_distinct (rule ∷ earlier) kept (rest, before, inr added) =
+    subst AreDistinct (sym added.1) (all_pairs_push (λ r s. r ≢ s) rest rule (dropped_distinct earlier rest before)
+    (λ k d in_range same. added.0 (subst (Contains earlier) same (DropsRepeats-only earlier rest (get_or rest k d) before (Contains-get_or rest k d in_range)))))
+
+-- no more are kept than there are
+pub DropsRepeats-few : (rules kept : List Rule) → DropsRepeats rules kept → length kept ≤ length rules
+DropsRepeats-few [] kept drops = let e : length kept ≡ 0 = ap length drops in omega (arith, e)
+DropsRepeats-few (first ∷ earlier) kept (rest, before, inl same) =
+    let few = DropsRepeats-few earlier rest before in
+    let e : length kept ≡ length rest = ap length same.1 in
+    omega (arith, few, e)
+DropsRepeats-few (first ∷ earlier) kept (rest, before, inr added) =
+    let few = DropsRepeats-few earlier rest before in
+    let e : length kept ≡ length (rest ++ first ∷ []) = ap length added.1 in
+    omega (arith, few, e, length-append rest (first ∷ []))

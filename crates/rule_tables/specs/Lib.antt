@@ -1,4 +1,5 @@
 pub mod Code
 pub mod Databases
 pub mod Domains
+pub mod FileFaults
 pub mod FileFormat

@@ -4,7 +4,9 @@
 mod code;
 mod database;
 mod domain;
+mod file_fault;
 
 pub use code::{Alpha2, Region};
 pub use database::{Db, DbInsertFault};
 pub use domain::{Domain, DomainFault};
+pub use file_fault::DbFault;

@@ -1,16 +1,14 @@
--- Whether two rules are one, and the rules that are kept of a list with repeats.
-use Rattle.std.proofs.Common.{◌≢◌, ℕ, Bool, List, [], ◌∷◌, ◌++◌, get_or, Contains, Option, arith, refl, sym, subst, inl, inr}
+-- What can be told of rules: whether two are one, and whether a WMM rule is valid.
+use Rattle.std.proofs.Common.{ℕ, Bool, Option, refl}
 use Rattle.std.proofs.lemmas.Bool.{cases_eq}
-use Rattle.std.proofs.lemmas.List.Elements.{Contains-get_or}
-use Rattle.std.proofs.lemmas.List.Quantifiers.{all_pairs_push}
+use Rattle.freq_range.specs.Valid.{IsValidEntry, IsValidWmm}
 use Rattle.freq_range.specs.declared.flags.RuleFlags.{RuleFlags}
 use Rattle.freq_range.specs.declared.rule.Rule.{Rule}
 use Rattle.freq_range.specs.declared.wmm.Wmm.{Wmm}
 use Rattle.freq_range.specs.declared.wmm.WmmEntry.{WmmEntry}
-use Rattle.rule_tables.specs.Domains.{AreDistinct}
-use Rattle.rule_tables.specs.FileFormat.{DropsRepeats}
-use Rattle.rule_tables.proofs.Dropped.{DropsRepeats-only}
-use Rattle.db_text.proofs.Deciding.{Tells, tells_bool, tells_option, tells_pair, tells_through, told_among}
+use Rattle.freq_range.proofs.Deciding.{Tells, Told, tells_bool, tells_option, tells_pair, tells_through, told_as, told_both, told_le, told_lt}
+
+-- ---- equal rules
 
 pub tells_entry : Tells WmmEntry
 tells_entry = tells_through {A = WmmEntry} {B = ℕ × (ℕ × (ℕ × ℕ))} (λ e. (e.min_exp, (e.max_exp, (e.aifsn, e.cot_ms))))
@@ -48,19 +46,29 @@ tells_rule = tells_through {A = Rule} {B = (ℕ × (ℕ × ℕ)) × (RuleFlags �
     (λ t. record { start_khz = t.0.0; end_khz = t.0.1.0; max_bw_khz = t.0.1.1; flags = t.1.0; eirp_mbm = t.1.1.0; cac_s = t.1.1.1.0; wmm = t.1.1.1.1 }) (λ r. refl)
     (tells_pair (tells_pair cases_eq (tells_pair cases_eq cases_eq)) (tells_pair tells_flags (tells_pair cases_eq (tells_pair cases_eq (tells_option tells_wmm)))))
 
--- ---- repeats dropped
+-- ---- valid WMM rules
 
-pub dropped : (rules : List Rule) → (kept : List Rule) × DropsRepeats rules kept
-dropped [] = ([], refl)
-dropped (rule ∷ earlier) = let rest = dropped earlier in elim (told_among tells_rule earlier rule) [
-  | inl among ↦ (rest.0, (rest.0, rest.1, inl (among, refl)))
-  | inr none ↦ (rest.0 ++ rule ∷ [], (rest.0, rest.1, inr (none, refl)))
-]
+pub told_entry : (e : WmmEntry) → Told (IsValidEntry e)
+told_entry e = told_as
+    (λ t. record { in_order = t.0; window_fits = t.1.0; waits = t.1.1.0; aifsn_fits = t.1.1.1.0; cot_fits = t.1.1.1.1 })
+    (λ v. (v.in_order, (v.window_fits, (v.waits, (v.aifsn_fits, v.cot_fits)))))
+    (told_both (told_lt e.min_exp e.max_exp) (told_both (told_le e.max_exp 15) (told_both (told_le 1 e.aifsn) (told_both (told_lt e.aifsn _) (told_lt e.cot_ms _)))))
 
--- no two of those that are kept are equal
-pub dropped_distinct : (rules kept : List Rule) → DropsRepeats rules kept → AreDistinct kept
-dropped_distinct [] kept drops = subst AreDistinct (sym drops) (λ i j d less in_range. absurd (omega (arith, in_range)))
-dropped_distinct (rule ∷ earlier) kept (rest, before, inl same) = subst AreDistinct (sym same.1) (dropped_distinct earlier rest before)
-dropped_distinct (rule ∷ earlier) kept (rest, before, inr added) =
-    subst AreDistinct (sym added.1) (all_pairs_push (λ r s. r ≢ s) rest rule (dropped_distinct earlier rest before)
-    (λ k d in_range same. added.0 (subst (Contains earlier) same (DropsRepeats-only earlier rest (get_or rest k d) before (Contains-get_or rest k d in_range)))))
+-- two valid entries, four
+told_two : (d e : WmmEntry) → Told (IsValidEntry d × IsValidEntry e)
+told_two d e = told_both (told_entry d) (told_entry e)
+
+pub told_wmm : (w : Wmm) → Told (IsValidWmm w)
+told_wmm w = told_as
+    (λ t. record {
+      vo_c = t.0.0.0;
+      vi_c = t.0.0.1;
+      be_c = t.0.1.0;
+      bk_c = t.0.1.1;
+      vo_ap = t.1.0.0;
+      vi_ap = t.1.0.1;
+      be_ap = t.1.1.0;
+      bk_ap = t.1.1.1;
+    })
+    (λ v. (((v.vo_c, v.vi_c), (v.be_c, v.bk_c)), ((v.vo_ap, v.vi_ap), (v.be_ap, v.bk_ap))))
+    (told_both (told_both (told_two w.vo_c w.vi_c) (told_two w.be_c w.bk_c)) (told_both (told_two w.vo_ap w.vi_ap) (told_two w.be_ap w.bk_ap)))
