@@ -4,7 +4,11 @@
 mod code;
 mod database;
 mod domain;
+mod govern;
+mod width;
 
 pub use code::{Alpha2, Region};
 pub use database::{Db, DbInsertFault};
 pub use domain::{Domain, DomainFault};
+pub use govern::governing;
+pub use width::{allowed_width, width_among};
