@@ -1,0 +1,3 @@
+pub mod OwnRows
+pub mod Greatest
+pub mod Longer

@@ -1,0 +1,58 @@
+-- The rows of the first rules of a domain, each alone, become those of one rule more.
+use Rattle.std.proofs.Common.{◌≡◌, ℕ, ◌+◌, ◌<◌, ◌≤◌, ◌⊎◌, List, [], ◌∷◌, ◌++◌, Some, length, get_or, map, slice_get, All, AllPairs, Contains, arith, refl, sym, ap, ◌∙◌, subst, inl, inr, map-append}
+use Rattle.std.proofs.lemmas.Bool.{cases_lt}
+use Rattle.std.proofs.lemmas.List.Elements.{All-push, All-weaker, All-get_or, All-nil, Contains-append_left, Contains-push}
+use Rattle.std.proofs.lemmas.List.Quantifiers.{all_pairs_push}
+use Rattle.freq_range.specs.declared.rule.Rule.{Rule}
+use Rattle.rule_tables.specs.Width.{IsAllowedWidth}
+use Rattle.rule_tables.proofs.Widths.{IsAllowedWidth-unique}
+use Rattle.rule_intersect.specs.declared.row.Row.{Row}
+use Rattle.rule_intersect.specs.Own.{AreChoices, AreOwnRows, row_alone}
+use Rattle.rule_intersect.specs.Tuples.{Choice, IsChoice, row_of}
+
+same_parts : (m n : ℕ) (r s : Rule) (v w : ℕ) → m ≡ n → r ≡ s → v ≡ w
+    → ◌≡◌ {A = Choice} (record { number = m; rule = r; width_khz = v }) (record { number = n; rule = s; width_khz = w })
+same_parts m n r s v w p q e = cc
+
+-- a choice is known by its number
+pub IsChoice-unique : (rules : List Rule) (c e : Choice) → IsChoice rules c → IsChoice rules e → c.number ≡ e.number → c ≡ e
+IsChoice-unique rules c e is_c is_e same =
+    let at_e : slice_get rules c.number ≡ Some e.rule = ap (λ n. slice_get rules n) same ∙ is_e.rule in
+    let same_rule : c.rule ≡ e.rule = same_some (sym is_c.rule ∙ at_e) in
+    let width_e = subst (λ n. IsAllowedWidth rules n e.width_khz) (sym same) is_e.width in
+    let same_width = IsAllowedWidth-unique rules c.number c.rule c.width_khz e.width_khz is_c.rule is_c.width width_e in
+    same_parts c.number e.number c.rule e.rule c.width_khz e.width_khz same same_rule same_width
+  where
+    same_some : {r s : Rule} → Some r ≡ Some s → r ≡ s
+    same_some {r} {s} p = cc
+
+pub AreChoices-none : (rules : List Rule) → AreChoices rules 0 []
+AreChoices-none rules = record {
+  all = λ c is below. absurd (omega arith);
+  only = All-nil (λ c. IsChoice rules c × (c.number < 0));
+  in_order = λ i j d below in_range. absurd (omega arith);
+}
+
+pub AreChoices-more : (rules : List Rule) (n : ℕ) (cs : List Choice) (c : Choice) → IsChoice rules c → c.number ≡ n
+    → AreChoices rules n cs → AreChoices rules (n + 1) (cs ++ c ∷ [])
+AreChoices-more rules n cs c is here so_far = record {
+  all = λ e is_e below. elim (cases_lt e.number n) [
+    | inl less ↦ Contains-append_left cs (c ∷ []) e (so_far.all e is_e less)
+    | inr last ↦
+        let same : c.number ≡ e.number = omega arith in
+        subst (λ x. Contains (cs ++ c ∷ []) x) (IsChoice-unique rules c e is is_e same) (Contains-push cs c)
+  ];
+  only = All-push (λ e. IsChoice rules e × (e.number < n + 1)) cs c
+    (All-weaker (λ e. IsChoice rules e × (e.number < n)) (λ e. IsChoice rules e × (e.number < n + 1)) (λ e h. (h.0, let less = h.1 in omega arith)) cs so_far.only)
+    (is, omega arith);
+  in_order = all_pairs_push (λ a b. a.number < b.number) cs c so_far.in_order
+    (λ k d in_range. let less = (so_far.only k d in_range).1 in omega (arith, less));
+}
+
+pub AreOwnRows-more : (rules : List Rule) (n : ℕ) (rows : List Row) (c : Choice) (row : Row) → IsChoice rules c → c.number ≡ n → row ≡ row_alone c
+    → AreOwnRows rules n rows → AreOwnRows rules (n + 1) (rows ++ row ∷ [])
+AreOwnRows-more rules n rows c row is here alone (cs, choices, same) =
+    (cs ++ c ∷ [], AreChoices-more rules n cs c is here choices, appended rows row (map row_alone cs) (row_alone c) same alone ∙ sym (map-append row_alone cs (c ∷ [])))
+  where
+    appended : (xs : List Row) (x : Row) (ys : List Row) (y : Row) → xs ≡ ys → x ≡ y → xs ++ x ∷ [] ≡ ys ++ y ∷ []
+    appended xs x ys y p q = cc
