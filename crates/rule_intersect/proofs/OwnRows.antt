@@ -1,8 +1,10 @@
 -- The rows of the first rules of a domain, each alone, become those of one rule more.
-use Rattle.std.proofs.Common.{◌≡◌, ℕ, ◌+◌, ◌<◌, ◌≤◌, ◌⊎◌, List, [], ◌∷◌, ◌++◌, Some, length, get_or, map, slice_get, All, AllPairs, Contains, arith, refl, sym, ap, ◌∙◌, subst, inl, inr, map-append}
+use Rattle.std.proofs.Common.{◌≡◌, ℕ, ◌+◌, ◌<◌, ◌≤◌, ◌⊎◌, List, [], ◌∷◌, ◌++◌, Some, length, get_or, map, slice_get, All, AllPairs, Contains, arith, refl, sym, ap, ◌∙◌, subst, inl, inr}
+use Rattle.std.proofs.lemmas.List.{map-append}
 use Rattle.std.proofs.lemmas.Bool.{cases_lt}
 use Rattle.std.proofs.lemmas.List.Elements.{All-push, All-weaker, All-get_or, All-nil, Contains-append_left, Contains-push}
 use Rattle.std.proofs.lemmas.List.Quantifiers.{all_pairs_push}
+use Rattle.std.proofs.lemmas.Option.{slice_get-get_or}
 use Rattle.freq_range.specs.declared.rule.Rule.{Rule}
 use Rattle.rule_tables.specs.Width.{IsAllowedWidth}
 use Rattle.rule_tables.proofs.Widths.{IsAllowedWidth-unique}
@@ -56,3 +58,10 @@ AreOwnRows-more rules n rows c row is here alone (cs, choices, same) =
   where
     appended : (xs : List Row) (x : Row) (ys : List Row) (y : Row) → xs ≡ ys → x ≡ y → xs ++ x ∷ [] ≡ ys ++ y ∷ []
     appended xs x ys y p q = cc
+
+-- the row of the rule at the next place
+pub AreOwnRows-next : (rules : List Rule) (n : ℕ) (rows : List Row) (d : Rule) (w : ℕ) (row : Row) → n < length rules → IsAllowedWidth rules n w
+    → row ≡ row_alone (record { number = n; rule = get_or rules n d; width_khz = w }) → AreOwnRows rules n rows → AreOwnRows rules (n + 1) (rows ++ row ∷ [])
+AreOwnRows-next rules n rows d w row in_range width same so_far =
+    AreOwnRows-more rules n rows (record { number = n; rule = get_or rules n d; width_khz = w }) row
+    (record { rule = slice_get-get_or rules n d in_range; width = width }) refl same so_far

@@ -3,9 +3,11 @@
 
 mod fault;
 mod joining;
+mod laws;
 mod row;
 mod table;
 
 pub use fault::ResolveFault;
+pub use laws::{first_row_is_that_of_all_domains, one_table};
 pub use row::Row;
 pub use table::Table;
