@@ -12,6 +12,7 @@ use Rattle.rule_tables.specs.Governing.{RuleHolds, HoldsAt, Governs, NoneGoverns
 use Rattle.rule_tables.specs.declared.domain.Domain.{Domain}
 use Rattle.rule_tables.proofs.Governed.{first_or_none, governs_or_none, holds_or_not, HoldsAt-from_get}
 use Rattle.rule_tables.proofs.Widths.{some_width}
+use Rattle.rule_intersect.proofs.OwnRows.{element_at}
 use Rattle.rule_intersect.specs.declared.row.Row.{Row}
 use Rattle.rule_intersect.specs.Subchannels.{RowHolds, RowHoldsAt, IsFirstRow, NoRowHolds, AreGoverning, IsGoverningRow, EachHasRule, SomeLacksRule}
 use Rattle.rule_intersect.specs.Tables.{AreTuples, AreRows, Joined, IsTableOf}
@@ -78,11 +79,6 @@ none_before [] centre (c ∷ t) (g ∷ first) is each are before = is
 none_before (d ∷ ds) centre (c ∷ t) (g ∷ first) is each are (inl less) =
     are.0.1.none_before c.number less (HoldsAt-from_get d.rules centre c.number c.rule is.0.rule each.0)
 none_before (d ∷ ds) centre (c ∷ t) (g ∷ first) is each are (inr (same, rest)) = none_before ds centre t first is.1 each.1 are.1 rest
-
-element_at : {X : Type 0} (xs : List X) (k : ℕ) → k < length xs → (x : X) × (slice_get xs k ≡ Some x)
-element_at [] k in_range = absurd (omega arith)
-element_at (x ∷ xs) zero in_range = (x, refl)
-element_at (x ∷ xs) (suc k) in_range = element_at xs k (omega arith)
 
 -- either each domain has a governing rule, or some domain has none
 each_or_lacks : (ds : List Domain) (centre : ℕ) → ((t : List Choice) × AreGoverning ds centre t) ⊎ SomeLacksRule ds centre

@@ -3,6 +3,7 @@ pub mod Greatest
 pub mod Longer
 pub mod Ordered
 pub mod Extended
+pub mod Counted
 pub mod Resolved
 pub mod Lawful
 pub mod OneTable

@@ -10,12 +10,18 @@ use Rattle.freq_range.proofs.Members.{Contains-head, Contains-later, Contains-ca
 use Rattle.std.proofs.lemmas.List.Kept.{AllPairs-cons}
 use Rattle.rule_tables.proofs.Ascending.{before_rest, pairs_rest}
 use Rattle.rule_tables.specs.declared.domain.Domain.{Domain}
+use Rattle.std.specs.Prelude.{Result, Ok, Err, MatchResult}
+use Rattle.std.specs.Result.{IsErrAnd}
+use Rattle.rule_intersect.specs.declared.fault.ResolveFault.{ResolveFault}
+use Rattle.rule_intersect.specs.declared.fault.ResolveFault.TheVariants.{OutOfMemory}
 use Rattle.rule_intersect.specs.declared.row.Row.{Row}
-use Rattle.rule_intersect.specs.Joining.{join_all}
+use Rattle.rule_intersect.specs.Joining.{join_all, met_all}
 use Rattle.rule_intersect.specs.Own.{AreChoices, AreOwnRows, row_alone}
-use Rattle.rule_intersect.specs.Tables.{AreTuples, AreRows, HasRows, HasFewRows, Joined, IsTableOf, IsTooMany}
+use Rattle.rule_intersect.specs.Tables.{AreTuples, AreRows, HasRows, HasFewRows, Joined, IsTableOf, IsTooMany, IsResolveFault}
 use Rattle.rule_intersect.specs.Tuples.{Choice, IsChoice, IsTuple, IsBefore, HasCommonRange, row_of}
+use Rattle.rule_intersect.proofs.Counted.{met_all-length}
 use Rattle.rule_intersect.proofs.Extended.{AreRows-more}
+use Rattle.rule_intersect.proofs.OwnRows.{length-own, some_own_rows}
 use Rattle.rule_intersect.proofs.Ordered.{All-from_members}
 
 rows_alone : (cs : List Choice) → map row_of (map (λ c. c ∷ []) cs) ≡ map row_alone cs
@@ -73,24 +79,33 @@ tuples_alone d cs valid choices = record {
         let choice = (All-contains (λ c. IsChoice d.rules c × (c.number < length d.rules)) cs one.0 choices.only one.1).0 in
         subst (λ x. IsTuple (d ∷ []) x × HasCommonRange x) one.2 ((choice, tt), ranged one.0 choice)
 
+rows_alone_are : (d : Domain) (rows : List Row) → All IsValidRule d.rules → AreOwnRows d.rules (length d.rules) rows → AreRows (d ∷ []) rows
+rows_alone_are d rows valid (cs, choices, same) = record {
+  tuples = map (λ c. c ∷ []) cs;
+  are_tuples = tuples_alone d cs valid choices;
+  rows_of_tuples = same ∙ sym (rows_alone cs);
+}
+
+few_alone : (d : Domain) (rows : List Row) → All IsValidRule d.rules → length d.rules ≤ 128 → AreOwnRows d.rules (length d.rules) rows → HasFewRows (d ∷ [])
+few_alone d rows valid few own =
+    let len = length-own d.rules rows own in
+    (length rows, (rows, rows_alone_are d rows valid own, refl), omega (arith, len))
+
+pub HasFewRows-first : (d : Domain) → All IsValidRule d.rules → length d.rules ≤ 128 → HasFewRows (d ∷ [])
+HasFewRows-first d valid few = let own = some_own_rows d.rules in few_alone d own.0 valid few own.1
+
 pub IsTableOf-first : (d : Domain) (rows : List Row) → All IsValidRule d.rules → length d.rules ≤ 128 → AreOwnRows d.rules (length d.rules) rows
-    → length rows ≡ length d.rules → IsTableOf (d ∷ []) (record { rows = rows; domains = 1 })
-IsTableOf-first d rows valid few (cs, choices, same) count = record {
+    → IsTableOf (d ∷ []) (record { rows = rows; domains = 1 })
+IsTableOf-first d rows valid few own = record {
   some = omega arith;
   domains = refl;
-  rows = are;
+  rows = rows_alone_are d rows valid own;
   few = λ n above within. prefix n above within;
 }
   where
-    are : AreRows (d ∷ []) rows
-    are = record {
-      tuples = map (λ c. c ∷ []) cs;
-      are_tuples = tuples_alone d cs valid choices;
-      rows_of_tuples = same ∙ sym (rows_alone cs);
-    }
     prefix : (n : ℕ) → 0 < n → n ≤ 1 → HasFewRows (take n (d ∷ []))
     prefix zero above within = absurd (omega arith)
-    prefix (suc zero) above within = (length rows, (rows, are, refl), omega arith)
+    prefix (suc zero) above within = few_alone d rows valid few own
     prefix (suc (suc n)) above within = absurd (omega arith)
 
 -- the prefixes of the longer list
@@ -101,32 +116,45 @@ few_longer : (ds : List Domain) (d : Domain) → ((n : ℕ) → 0 < n → n ≤ 
     → (n : ℕ) → 0 < n → n ≤ length ds → HasFewRows (take n (ds ++ d ∷ []))
 few_longer ds d few n above within = subst HasFewRows (sym (take-append-le n ds (d ∷ []) within)) (few n above within)
 
-pub IsTableOf-next : (ds : List Domain) (d : Domain) (table : Joined) (own rows : List Row) (n count : ℕ) → IsTableOf ds table → AreOwnRows d.rules (length d.rules) own
-    → count ≡ length (join_all table.rows own) → count ≤ 1024 → rows ≡ join_all table.rows own → n ≡ table.domains + 1
+-- so many pairs of a row and a rule meet, so many rows has the longer list
+HasRows-next : (ds : List Domain) (d : Domain) (table : Joined) → IsTableOf ds table → HasRows (ds ++ d ∷ []) (met_all table.rows d.rules)
+HasRows-next ds d table is =
+    let own = some_own_rows d.rules in
+    (join_all table.rows own.0, AreRows-more ds d table.rows own.0 is.some is.rows own.1, met_all-length d.rules table.rows own.0 own.1)
+
+pub HasFewRows-next : (ds : List Domain) (d : Domain) (table : Joined) (count : ℕ) → IsTableOf ds table
+    → count ≡ met_all table.rows d.rules → count ≤ 1024 → HasFewRows (ds ++ d ∷ [])
+HasFewRows-next ds d table count is counted few = (met_all table.rows d.rules, HasRows-next ds d table is, omega arith)
+
+pub IsTableOf-next : (ds : List Domain) (d : Domain) (table : Joined) (own rows : List Row) (n count : ℕ) → IsTableOf ds table
+    → count ≡ met_all table.rows d.rules → count ≤ 1024 → AreOwnRows d.rules (length d.rules) own → rows ≡ join_all table.rows own → n ≡ table.domains + 1
     → IsTableOf (ds ++ d ∷ []) (record { rows = rows; domains = n })
-IsTableOf-next ds d table own rows n count is alone counted few joined one_more = record {
+IsTableOf-next ds d table own rows n count is counted few alone joined one_more = record {
   some = let len = length-append ds (d ∷ []) in omega (arith, len);
   domains = let len = length-append ds (d ∷ []) in let same = is.domains in omega (arith, len, same);
-  rows = are;
+  rows = subst (AreRows (ds ++ d ∷ [])) (sym joined) (AreRows-more ds d table.rows own is.some is.rows alone);
   few = λ m above within. elim (cases_lt (length ds) m) [
-    | inl longer ↦ subst HasFewRows (sym (take_longer ds d m longer within)) (count, (rows, are, counted ∙ ap length (sym joined)), few)
+    | inl longer ↦ subst HasFewRows (sym (take_longer ds d m longer within)) (HasFewRows-next ds d table count is counted few)
     | inr shorter ↦ few_longer ds d is.few m above shorter
   ];
 }
-  where
-    are : AreRows (ds ++ d ∷ []) rows
-    are = subst (AreRows (ds ++ d ∷ [])) (sym joined) (AreRows-more ds d table.rows own is.some is.rows alone)
 
-pub IsTooMany-next : (ds : List Domain) (d : Domain) (table : Joined) (own : List Row) (n count : ℕ) → IsTableOf ds table → AreOwnRows d.rules (length d.rules) own
-    → count ≡ length (join_all table.rows own) → 1024 < count → n ≡ table.domains + 1 → IsTooMany (ds ++ d ∷ []) n count
-IsTooMany-next ds d table own n count is alone counted many one_more =
+pub IsTooMany-next : (ds : List Domain) (d : Domain) (table : Joined) (n count : ℕ) → IsTableOf ds table
+    → count ≡ met_all table.rows d.rules → 1024 < count → n ≡ table.domains + 1 → IsTooMany (ds ++ d ∷ []) n count
+IsTooMany-next ds d table n count is counted many one_more =
     let len = length-append ds (d ∷ []) in
     let same = is.domains in
     record {
       some = omega arith;
       within = omega (arith, len, same);
       has = subst (λ xs. HasRows xs count) (sym (take_longer ds d n (omega (arith, same)) (omega (arith, len, same))))
-        (join_all table.rows own, AreRows-more ds d table.rows own is.some is.rows alone, counted);
+        (subst (HasRows (ds ++ d ∷ [])) (sym counted) (HasRows-next ds d table is));
       too_many = many;
       few_before = λ m above below. few_longer ds d is.few m above (omega (arith, same));
     }
+
+-- want of memory is a fault of a list with few rows
+pub fault_of_memory : {T : Type 0} (r : Result T ResolveFault) (P : T → Type 0) (ds : List Domain) → IsErrAnd r (λ e. e ≡ OutOfMemory) → HasFewRows ds
+    → MatchResult r P (IsResolveFault ds)
+fault_of_memory (Ok x) P ds is few = absurd is
+fault_of_memory (Err e) P ds is few = subst (IsResolveFault ds) (sym is) few

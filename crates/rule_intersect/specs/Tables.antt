@@ -47,7 +47,7 @@ pub record IsTooMany (ds : List Domain) (after n : ℕ) : Type 0 where
   pub too_many : 1024 < n
   pub few_before : (m : ℕ) → 0 < m → m < after → HasFewRows (take m ds)
 
--- why the list of domains has no table
+-- why the list of domains has no table; want of memory is a reason only where it has few rows
 abbrev pub IsResolveFault : List Domain → ResolveFault → Type 0
 IsResolveFault ds (TooManyRows after n) = IsTooMany ds after n
-IsResolveFault ds OutOfMemory = Unit {0}
+IsResolveFault ds OutOfMemory = HasFewRows ds

@@ -1,7 +1,7 @@
 //! Making the rows of a list of domains, over slices.
 
 ghost use Rattle.std.specs.Prelude.{◌≡◌, ℕ, ◌<◌, ◌≤◌, ◌*◌, ◌++◌, All, IfErr, IfOk, MatchOption, OnOk, length};
-ghost use Rattle.rule_intersect.specs.Joining.{join_all, join_one};
+ghost use Rattle.rule_intersect.specs.Joining.{join_all, join_one, met_all, met_one};
 ghost use Rattle.rule_intersect.specs.Own.{AreOwnRows};
 ghost use Rattle.rule_intersect.specs.Subchannels.{IsFirstRow, NoRowHolds};
 ghost use Rattle.rule_intersect.specs.declared.fault.ResolveFault.TheVariants.{OutOfMemory};
@@ -15,7 +15,6 @@ use std::alloc::Global;
 /// The rows of the rules, each alone, with the widths that they allow.
 pub fn own_rows(alloc: Global, rules: &[Rule]) -> Result<Vec<Row>, ResolveFault>
     ensures rows { IfOk result (λ v. AreOwnRows rules.now (length rules.now) v.items) }
-    ensures count { IfOk result (λ v. length v.items ≡ length rules.now) }
     ensures err { IfErr result (λ e. e ≡ OutOfMemory) }
 {
     let mut rows = Vec::with_capacity(alloc, rules.len())?;
@@ -25,29 +24,29 @@ pub fn own_rows(alloc: Global, rules: &[Rule]) -> Result<Vec<Row>, ResolveFault>
     Ok(rows)
 }
 
-/// How many of the others meet the row.
-fn count_one(row: &Row, others: &[Row]) -> usize
-    ensures count { result ≡ length (join_one row.now others.now) }
-    ensures small { result ≤ length others.now }
+/// How many of the rules the row meets.
+fn count_one(row: &Row, rules: &[Rule]) -> usize
+    ensures count { result ≡ met_one row.now rules.now }
+    ensures small { result ≤ length rules.now }
 {
     let mut count = 0;
-    for (i, other) in others.iter().enumerate() {
-        if row.meets(other) {
+    for (i, rule) in rules.iter().enumerate() {
+        if row.meets_rule(rule) {
             count += 1;
         }
     }
     count
 }
 
-/// How many rows the rows and the others make, joined.
-pub fn count_all(rows: &[Row], others: &[Row]) -> usize
+/// How many pairs of a row and a rule meet.
+pub fn count_all(rows: &[Row], rules: &[Rule]) -> usize
     requires few_rows { length rows.now ≤ 1024 }
-    requires few_others { length others.now ≤ 128 }
-    ensures count { result ≡ length (join_all rows.now others.now) }
+    requires few_rules { length rules.now ≤ 128 }
+    ensures count { result ≡ met_all rows.now rules.now }
 {
     let mut count = 0;
     for (i, row) in rows.iter().enumerate() {
-        count += count_one(row, others);
+        count += count_one(row, rules);
     }
     count
 }

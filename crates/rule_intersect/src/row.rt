@@ -1,7 +1,7 @@
 //! A row: what several domains allow together in one range.
 
 ghost use Rattle.std.specs.Prelude.{◌≡◌, ℕ, ◌∷◌, []};
-ghost use Rattle.rule_intersect.specs.Joining.{meets, join, join_flags};
+ghost use Rattle.rule_intersect.specs.Joining.{meets, meets_rule, join, join_flags};
 ghost use Rattle.rule_intersect.specs.Tuples.{check_ms, row_of};
 
 use freq_range::{Range, Rule, RuleFlags};
@@ -79,7 +79,14 @@ impl Row {
         }
     }
 
-    /// Whether both have a common range.
+    /// Whether the row and the rule have a common range.
+    pub fn meets_rule(&self, rule: &Rule) -> bool
+        ensures { result ≡ meets_rule self.now rule.now }
+    {
+        self.start_khz.max(rule.start_khz) < self.end_khz.min(rule.end_khz)
+    }
+
+    /// Whether both rows have a common range.
     pub fn meets(&self, other: &Row) -> bool
         ensures { result ≡ meets self.now other.now }
     {

@@ -1,10 +1,11 @@
 //! The rows of a list of domains.
 
-ghost use Rattle.std.specs.Prelude.{◌≡◌, ◌==◌, ◌<◌, ◌≤◌, ◌∷◌, ◌++◌, [], List, All, MatchOption, MatchResult, length, slice_get};
+ghost use Rattle.std.specs.Prelude.{◌≡◌, ◌==◌, ◌<◌, ◌≤◌, ◌∷◌, ◌++◌, [], List, All, IfErr, MatchOption, MatchResult, length, slice_get};
 ghost use Rattle.freq_range.specs.Valid.{IsValidRule};
 ghost use Rattle.rule_tables.specs.declared.domain.Domain.{Domain};
 ghost use Rattle.rule_intersect.specs.Subchannels.{IsFirstRow, IsGoverningRow, NoRowHolds, SomeLacksRule};
 ghost use Rattle.rule_intersect.specs.Tables.{IsResolveFault, IsTableOf};
+ghost use Rattle.rule_intersect.specs.declared.fault.ResolveFault.TheVariants.{OutOfMemory};
 
 use crate::fault::ResolveFault;
 use crate::joining::{count_all, first_holding, join_rows, own_rows};
@@ -42,14 +43,15 @@ impl Table {
         requires valid { All IsValidRule d.now.rules }
         requires few { length d.now.rules ≤ 128 }
         ensures table { MatchResult result (IsTableOf (d.now ∷ [])) (IsResolveFault (d.now ∷ [])) }
+        ensures err { IfErr result (λ fault. fault ≡ OutOfMemory) }
     {
         let rows = own_rows(alloc, d.rules.as_slice())?;
         Ok(Table { rows, domains: 1 })
     }
 
     /// The table of the list of domains of which this is the table, with one more domain at its end.
-    /// `TooManyRows` comes exactly where the longer list has more than 1,024 rows. This table stays
-    /// as it is.
+    /// `TooManyRows` comes exactly where the longer list has more than 1,024 rows, and takes no memory.
+    /// After each fault this table is as before.
     pub fn next(&self, d: &Domain) -> Result<Table, ResolveFault>
         requires valid { All IsValidRule d.now.rules }
         requires few { length d.now.rules ≤ 128 }
@@ -58,8 +60,7 @@ impl Table {
             → MatchResult result (IsTableOf (ds ++ d.now ∷ [])) (IsResolveFault (ds ++ d.now ∷ [])) }
     {
         let alloc = *self.rows.allocator();
-        let own = own_rows(alloc, d.rules.as_slice())?;
-        let count = count_all(self.rows.as_slice(), own.as_slice());
+        let count = count_all(self.rows.as_slice(), d.rules.as_slice());
         let domains = self.domains + 1;
         if count > MOST_ROWS {
             return Err(ResolveFault::TooManyRows {
@@ -67,6 +68,7 @@ impl Table {
                 rows: count,
             });
         }
+        let own = own_rows(alloc, d.rules.as_slice())?;
         let rows = join_rows(alloc, count, self.rows.as_slice(), own.as_slice())?;
         Ok(Table { rows, domains })
     }
