@@ -64,6 +64,7 @@ one_has t (e ∷ cs) c has common = elim (Contains-cases e cs c has) [
     taken : (b : Bool) → b ≡ true → (rest : List (List Choice)) → e ≡ c → Contains (if b then (t ++ e ∷ []) ∷ rest else rest) (t ++ c ∷ [])
     taken true is rest same = subst (λ x. Contains ((t ++ e ∷ []) ∷ rest) (t ++ x ∷ [])) same (Contains-head (t ++ e ∷ []) rest)
     taken false is rest same = absurd cc
+
     kept : (b : Bool) (rest : List (List Choice)) → Contains rest (t ++ c ∷ []) → Contains (if b then (t ++ e ∷ []) ∷ rest else rest) (t ++ c ∷ [])
     kept true rest has = Contains-later (t ++ e ∷ []) rest (t ++ c ∷ []) has
     kept false rest has = has
@@ -76,6 +77,7 @@ one_from t (e ∷ cs) x has = by_test (λ rest. one_from t cs x rest) (meets (ro
     later : (c : Choice) × Contains cs c × (meets (row_of t) (row_alone c) ≡ true) × (t ++ c ∷ [] ≡ x)
         → (c : Choice) × Contains (e ∷ cs) c × (meets (row_of t) (row_alone c) ≡ true) × (t ++ c ∷ [] ≡ x)
     later (c, has_c, common, is) = (c, Contains-later e cs c has_c, common, is)
+
     by_test : (Contains (extend_one t cs) x → (c : Choice) × Contains cs c × (meets (row_of t) (row_alone c) ≡ true) × (t ++ c ∷ [] ≡ x))
         → (b : Bool) → meets (row_of t) (row_alone e) ≡ b → Contains (if b then (t ++ e ∷ []) ∷ extend_one t cs else extend_one t cs) x
         → (c : Choice) × Contains (e ∷ cs) c × (meets (row_of t) (row_alone c) ≡ true) × (t ++ c ∷ [] ≡ x)
@@ -110,6 +112,7 @@ one_in_order t (c ∷ cs) up = by_test (one_in_order t cs (pairs_rest (λ a b. a
     before x has =
         let one = one_from t cs x has in
         subst (λ y. IsBefore (t ++ c ∷ []) y) one.3 (IsBefore-last t c one.0 (before_rest (λ a b. a.number < b.number) c cs one.0 up one.1))
+
     by_test : AllPairs IsBefore (extend_one t cs) → (b : Bool) → AllPairs IsBefore (if b then (t ++ c ∷ []) ∷ extend_one t cs else extend_one t cs)
     by_test rest true = AllPairs-cons IsBefore (t ++ c ∷ []) (extend_one t cs) (All-from_members (IsBefore (t ++ c ∷ [])) (extend_one t cs) before) rest
     by_test rest false = rest
@@ -158,6 +161,7 @@ AreTuples-more ds d ts cs some tuples choices = record {
   where
     filled : (front : List Choice) → IsTuple ds front → 0 < length front
     filled front is = let len = length-tuple ds front is in omega arith
+
     whole : (t : List Choice) → HasCommonRange t
         → (front : List Choice) × (c : Choice) × IsTuple ds front × IsChoice d.rules c × (front ++ c ∷ [] ≡ t) → Contains (extend ts cs) t
     whole t common (front, c, is, choice, same) =
@@ -165,6 +169,7 @@ AreTuples-more ds d ts cs some tuples choices = record {
         let has_front = tuples.all front is (common_before front c test) in
         let has_c = choices.all c choice (slice_get_within d.rules c.number c.rule choice.rule) in
         all_have ts cs front t has_front (subst (λ x. Contains (extend_one front cs) x) same (one_has front cs c has_c test))
+
     only_these : (t : List Choice) → Contains (extend ts cs) t → IsTuple (ds ++ d ∷ []) t × HasCommonRange t
     only_these t has =
         let group = all_from ts cs t has in
@@ -184,6 +189,7 @@ AreRows-more ds d rows own some are (cs, choices, alone) = record {
   where
     same_join : {xs ys vs ws : List Row} → xs ≡ ys → vs ≡ ws → join_all xs vs ≡ join_all ys ws
     same_join {xs} {ys} {vs} {ws} p q = λ i. join_all (p i) (q i)
+
     filled : All (λ t. 0 < length t) are.tuples
     filled = All-from_members (λ t. 0 < length t) are.tuples (λ t has.
         let is = (All-contains (λ t. IsTuple ds t × HasCommonRange t) are.tuples t are.are_tuples.only has).0 in

@@ -52,9 +52,10 @@ each_from_row centre (c ∷ []) holds =
     (record { from_start = omega (arith, low); to_end = holds.to_end }, tt)
 each_from_row centre (c ∷ e ∷ t) holds =
     let low = holds.from_start in
-    let high = holds.to_end in
-    (record { from_start = omega (arith, low); to_end = omega (arith, high) },
-    each_from_row centre (e ∷ t) (record { from_start = omega (arith, low); to_end = omega (arith, high) }))
+    let high = holds.to_end in (
+      record { from_start = omega (arith, low); to_end = omega (arith, high) },
+      each_from_row centre (e ∷ t) (record { from_start = omega (arith, low); to_end = omega (arith, high) }),
+    )
 
 pub tuple_of_governing : (ds : List Domain) (centre : ℕ) (t : List Choice) → AreGoverning ds centre t → IsTuple ds t
 tuple_of_governing [] centre [] are = tt
@@ -93,8 +94,10 @@ each_or_lacks (d ∷ ds) centre = elim (governs_or_none d.rules centre) [
   where
     rule_at : (found : (k : ℕ) × Governs d.rules centre k) → (r : Rule) × (slice_get d.rules found.0 ≡ Some r)
     rule_at found = element_at d.rules found.0 found.1.here.0
+
     chosen : (found : (k : ℕ) × Governs d.rules centre k) → Choice
     chosen found = record { number = found.0; rule = (rule_at found).0; width_khz = (some_width d.rules found.0 (rule_at found).0 (rule_at found).1).0 }
+
     is_chosen : (found : (k : ℕ) × Governs d.rules centre k) → IsChoice d.rules (chosen found)
     is_chosen found = record { rule = (rule_at found).1; width = (some_width d.rules found.0 (rule_at found).0 (rule_at found).1).1 }
 
@@ -136,12 +139,16 @@ first_is_governing ds centre ts k t some tuples are first = elim (cases_order k 
   where
     found : RowHolds centre (row_of t) × Contains ts t
     found = governing_row ds centre ts t some tuples are
+
     has : Contains ts t
     has = found.1
+
     len : length (map row_of ts) ≡ length ts
     len = length-map ts row_of
+
     in_range : k < length ts
     in_range = let within = first.here.0 in omega (arith, len, within)
+
     not_earlier : k < has.0 → ⊥
     not_earlier earlier =
         let other = get_or ts k t in

@@ -48,6 +48,7 @@ IsTooMany-unique ds after m other n one two =
         let same = ap length (AreRows-unique (take a ds) few.1.0 first.has.0 few.1.1 first.has.1) in
         let many = first.too_many in
         omega (arith, same, few.1.2, first.has.2, few.2, many)
+
     same_after : after ≡ other
     same_after = elim (cases_order after other) [
       | inl same ↦ same

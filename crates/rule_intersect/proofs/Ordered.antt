@@ -36,6 +36,7 @@ one_order {X} R one_way (x ∷ xs) (y ∷ ys) up_x up_y to from =
         | inr later_y ↦ absurd (one_way x y (before_rest R x xs y up_x later_y) (before_rest R y ys x up_y later_x))
       ]
     ]
+
     behind : (a : X) (as' : List X) (b : X) (bs : List X) → AllPairs R (a ∷ as') → a ≡ b → (z : X) → Contains as' z → Contains (b ∷ bs) z → Contains bs z
     behind a as' b bs up same z has has_b = elim (Contains-cases b bs z has_b) [
       | inl is ↦
@@ -46,5 +47,6 @@ one_order {X} R one_way (x ∷ xs) (y ∷ ys) up_x up_y to from =
       where
         twice : a ≡ b → b ≡ z → a ≡ z
         twice p q = cc
+
     cons_same : x ≡ y → xs ≡ ys → x ∷ xs ≡ y ∷ ys
     cons_same p q = cc

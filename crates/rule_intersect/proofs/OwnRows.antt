@@ -47,16 +47,18 @@ AreChoices-more rules n cs c is here so_far = record {
   ];
   rules_in_order = map-append (λ e. e.rule) cs (c ∷ []) ∙ pushed ∙ sym (take_more rules n c.rule in_range);
   only = All-push (λ e. IsChoice rules e × (e.number < n + 1)) cs c
-    (All-weaker (λ e. IsChoice rules e × (e.number < n)) (λ e. IsChoice rules e × (e.number < n + 1)) (λ e h. (h.0, let less = h.1 in omega arith)) cs so_far.only)
-    (is, omega arith);
+      (All-weaker (λ e. IsChoice rules e × (e.number < n)) (λ e. IsChoice rules e × (e.number < n + 1)) (λ e h. (h.0, let less = h.1 in omega arith)) cs so_far.only)
+      (is, omega arith);
   in_order = all_pairs_push (λ a b. a.number < b.number) cs c so_far.in_order
-    (λ k d in_range. let less = (so_far.only k d in_range).1 in omega (arith, less));
+      (λ k d in_range. let less = (so_far.only k d in_range).1 in omega (arith, less));
 }
   where
     in_range : n < length rules
     in_range = subst (λ m. m < length rules) here (slice_get_within rules c.number c.rule is.rule)
+
     at : get_or rules n c.rule ≡ c.rule
     at = subst (λ m. get_or rules m c.rule ≡ c.rule) here (get_or_from_slice_get rules c.number c.rule c.rule is.rule)
+
     pushed : map (λ e. e.rule) cs ++ c.rule ∷ [] ≡ take n rules ++ get_or rules n c.rule ∷ []
     pushed = let so = so_far.rules_in_order in let here_at = at in cc
 

@@ -67,12 +67,14 @@ tuples_alone d cs valid choices = record {
     whole [] is = absurd is
     whole (c ∷ []) is = has_alone cs c (choices.all c is.0 (slice_get_within d.rules c.number c.rule is.0.rule))
     whole (c ∷ e ∷ t) is = absurd is.1
+
     ranged : (c : Choice) → IsChoice d.rules c → HasCommonRange (c ∷ [])
     ranged c is =
         let in_range = slice_get_within d.rules c.number c.rule is.rule in
         let is_valid : IsValidRule c.rule = subst IsValidRule (get_or_from_slice_get d.rules c.number c.rule c.rule is.rule) (valid c.number c.rule in_range) in
         let order = is_valid.in_order in
         omega arith
+
     only_these : (t : List Choice) → Contains (map (λ c. c ∷ []) cs) t → IsTuple (d ∷ []) t × HasCommonRange t
     only_these t has =
         let one = from_alone cs t has in
@@ -148,7 +150,7 @@ IsTooMany-next ds d table n count is counted many one_more =
       some = omega arith;
       within = omega (arith, len, same);
       has = subst (λ xs. HasRows xs count) (sym (take_longer ds d n (omega (arith, same)) (omega (arith, len, same))))
-        (subst (HasRows (ds ++ d ∷ [])) (sym counted) (HasRows-next ds d table is));
+          (subst (HasRows (ds ++ d ∷ [])) (sym counted) (HasRows-next ds d table is));
       too_many = many;
       few_before = λ m above below. few_longer ds d is.few m above (omega (arith, same));
     }

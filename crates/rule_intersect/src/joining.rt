@@ -65,7 +65,12 @@ fn push_joined(out: &mut Vec<Row>, row: &Row, others: &[Row]) -> Result<(), Reso
 }
 
 /// Each row joined with each of the others that it meets, `count` rows in all.
-pub fn join_rows(alloc: Global, count: usize, rows: &[Row], others: &[Row]) -> Result<Vec<Row>, ResolveFault>
+pub fn join_rows(
+    alloc: Global,
+    count: usize,
+    rows: &[Row],
+    others: &[Row],
+) -> Result<Vec<Row>, ResolveFault>
     ensures rows { IfOk result (λ v. v.items ≡ join_all rows.now others.now) }
     ensures err { IfErr result (λ e. e ≡ OutOfMemory) }
 {

@@ -1,11 +1,14 @@
 //! The rows of a list of domains.
 
-ghost use Rattle.std.specs.Prelude.{◌≡◌, ◌==◌, ◌<◌, ◌≤◌, ◌∷◌, ◌++◌, [], List, All, IfErr, MatchOption, MatchResult, length, slice_get};
+ghost use Rattle.std.specs.Prelude.{◌≡◌, ◌==◌, ◌+◌, ◌<◌, ◌≤◌, ◌∷◌, ◌++◌, [], List, All, IfErr, IfOk, MatchOption, MatchResult, length, slice_get};
 ghost use Rattle.freq_range.specs.Valid.{IsValidRule};
 ghost use Rattle.rule_tables.specs.declared.domain.Domain.{Domain};
 ghost use Rattle.rule_intersect.specs.Subchannels.{IsFirstRow, IsGoverningRow, NoRowHolds, SomeLacksRule};
 ghost use Rattle.rule_intersect.specs.Tables.{IsResolveFault, IsTableOf};
 ghost use Rattle.rule_intersect.specs.declared.fault.ResolveFault.TheVariants.{OutOfMemory};
+
+#[cfg(test)]
+mod tests;
 
 use crate::fault::ResolveFault;
 use crate::joining::{count_all, first_holding, join_rows, own_rows};
@@ -43,6 +46,7 @@ impl Table {
         requires valid { All IsValidRule d.now.rules }
         requires few { length d.now.rules ≤ 128 }
         ensures table { MatchResult result (IsTableOf (d.now ∷ [])) (IsResolveFault (d.now ∷ [])) }
+        ensures domains { IfOk result (λ t. t.domains ≡ 1) }
         ensures err { IfErr result (λ fault. fault ≡ OutOfMemory) }
     {
         let rows = own_rows(alloc, d.rules.as_slice())?;
@@ -58,6 +62,7 @@ impl Table {
         requires room { self.now.domains < 1024 }
         ensures table { (ds : List Domain) → IsTableOf ds self.now
             → MatchResult result (IsTableOf (ds ++ d.now ∷ [])) (IsResolveFault (ds ++ d.now ∷ [])) }
+        ensures domains { IfOk result (λ t. t.domains ≡ self.now.domains + 1) }
     {
         let alloc = *self.rows.allocator();
         let count = count_all(self.rows.as_slice(), d.rules.as_slice());
@@ -82,6 +87,13 @@ impl Table {
             → MatchOption result (SomeLacksRule ds centre_khz) (IsGoverningRow ds self.now.rows centre_khz) }
     {
         first_holding(self.rows.as_slice(), centre_khz)
+    }
+
+    /// How many domains it joins.
+    pub fn domains(&self) -> usize
+        ensures { result ≡ self.now.domains }
+    {
+        self.domains
     }
 
     /// How many rows there are.
