@@ -7,3 +7,4 @@ pub mod Counted
 pub mod Resolved
 pub mod Lawful
 pub mod OneTable
+pub mod Answered

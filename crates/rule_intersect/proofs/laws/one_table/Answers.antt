@@ -1,5 +1,9 @@
+use Rattle.rule_intersect.proofs.Answered.{table_or_too_many}
 use Rattle.rule_intersect.proofs.OneTable.{IsTableOf-unique, IsTooMany-unique, no_table_of_too_many}
 use Rattle.rule_intersect.proofs.laws.one_table.Goals as goal
+
+pub returns-clause-some : goal.returns-clause-some
+returns-clause-some c = table_or_too_many
 
 pub returns-clause-table : goal.returns-clause-table
 returns-clause-table c = IsTableOf-unique
