@@ -1,5 +1,5 @@
 -- Each list of domains has a table or too many rows.
-use Rattle.std.proofs.Common.{◌≡◌, ℕ, ◌+◌, ◌<◌, ◌≤◌, ◌⊎◌, List, [], ◌∷◌, ◌++◌, length, take, get_or, All, arith, refl, sym, subst, inl, inr, append_assoc}
+use Rattle.std.proofs.Common.{ℕ, ◌+◌, ◌<◌, ◌⊎◌, List, [], ◌∷◌, ◌++◌, length, All, arith, refl, sym, subst, inl, inr, append_assoc}
 use Rattle.std.proofs.lemmas.Bool.{cases_lt}
 use Rattle.std.proofs.lemmas.List.{length-append, take-append-le, append-nil}
 use Rattle.std.proofs.lemmas.List.Elements.{All-head}
@@ -29,8 +29,12 @@ resolved front [] table is = inl (table, subst (λ ds. IsTableOf ds table) (sym 
 resolved front (d ∷ rest) table is = elim (cases_lt 1024 (met_all table.rows d.rules)) [
   | inl many ↦
       let fault = IsTooMany-next front d table (table.domains + 1) (met_all table.rows d.rules) is refl many refl in
-      inr (table.domains + 1, met_all table.rows d.rules, subst (λ ds. IsTooMany ds (table.domains + 1) (met_all table.rows d.rules)) (append_assoc front (d ∷ []) rest)
-        (IsTooMany-front (front ++ d ∷ []) rest (table.domains + 1) (met_all table.rows d.rules) fault))
+      inr (
+        table.domains + 1,
+        met_all table.rows d.rules,
+        subst (λ ds. IsTooMany ds (table.domains + 1) (met_all table.rows d.rules)) (append_assoc front (d ∷ []) rest)
+            (IsTooMany-front (front ++ d ∷ []) rest (table.domains + 1) (met_all table.rows d.rules) fault),
+      )
   | inr few ↦
       let own = some_own_rows d.rules in
       let longer : Joined = record { rows = join_all table.rows own.0; domains = table.domains + 1 } in

@@ -1,5 +1,5 @@
 -- The pairs of a row and a rule that meet are as many as the rows that they make.
-use Rattle.std.proofs.Common.{◌≡◌, ℕ, suc, ◌+◌, ◌≤◌, max, min, nat_lt, Bool, true, false, List, [], ◌∷◌, ◌++◌, length, map, if◌then◌else◌, arith, refl, sym, ap, ◌∙◌, subst}
+use Rattle.std.proofs.Common.{◌≡◌, ℕ, suc, ◌≤◌, max, min, nat_lt, Bool, true, false, List, [], ◌∷◌, length, map, if◌then◌else◌, arith, refl, sym, ap, ◌∙◌}
 use Rattle.std.proofs.lemmas.List.{length-append}
 use Rattle.freq_range.specs.declared.rule.Rule.{Rule}
 use Rattle.rule_intersect.specs.declared.row.Row.{Row}

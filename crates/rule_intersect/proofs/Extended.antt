@@ -1,8 +1,8 @@
 -- The tuples of a list of domains with one more at its end are those of the list, each with each choice of the new domain
 -- that keeps a common range.
-use Rattle.std.proofs.Common.{◌≡◌, ℕ, ◌+◌, ◌<◌, ◌≤◌, max, min, nat_lt, Bool, true, false, List, [], ◌∷◌, ◌++◌, length, map, All, AllPairs, Contains, if◌then◌else◌, arith, refl, sym, ap, ◌∙◌, subst, inl, inr}
+use Rattle.std.proofs.Common.{◌≡◌, ℕ, ◌<◌, max, min, nat_lt, Bool, true, false, List, [], ◌∷◌, ◌++◌, length, map, All, AllPairs, Contains, if◌then◌else◌, arith, refl, sym, ◌∙◌, subst, inl, inr}
 use Rattle.std.proofs.lemmas.Bool.Decides.{nat_tests}
-use Rattle.std.proofs.lemmas.List.{map-append, length-append}
+use Rattle.std.proofs.lemmas.List.{map-append}
 use Rattle.std.proofs.lemmas.List.Elements.{All-contains, All-tail, All-head, Contains-append_left, Contains-append_right, Contains-append_cases}
 use Rattle.std.proofs.lemmas.List.Kept.{AllPairs-cons}
 use Rattle.std.proofs.lemmas.Option.{slice_get_within}

@@ -1,12 +1,9 @@
 -- The row of a longer tuple.
-use Rattle.std.proofs.Common.{◌≡◌, ℕ, ◌+◌, ◌<◌, ◌≤◌, ◌*◌, max, min, Bool, ◌||◌, true, false, List, [], ◌∷◌, ◌++◌, length, arith, refl, sym, ap, ◌∙◌}
-use Rattle.std.specs.List.{list_any}
+use Rattle.std.proofs.Common.{◌≡◌, ℕ, ◌*◌, max, min, false, List, [], ◌∷◌, ◌++◌, arith, refl, sym, ap, ◌∙◌}
 use Rattle.std.proofs.lemmas.List.Folds.{list_any-append}
-use Rattle.freq_range.specs.declared.flags.RuleFlags.{RuleFlags}
-use Rattle.rule_intersect.specs.declared.row.Row.{Row}
-use Rattle.rule_intersect.specs.Joining.{join, join_flags}
+use Rattle.rule_intersect.specs.Joining.{join}
 use Rattle.rule_intersect.specs.Own.{row_alone}
-use Rattle.rule_intersect.specs.Tuples.{Choice, row_of, greatest_by, least_by, some_rule, check_ms}
+use Rattle.rule_intersect.specs.Tuples.{Choice, row_of, greatest_by, least_by, check_ms}
 
 max_apart : (a b c : ℕ) → max a (max b c) ≡ max (max a b) c
 max_apart a b c = omega arith

@@ -1,11 +1,9 @@
 -- The first row that holds a channel is that of the tuple of the first rule of every domain that holds it.
-use Rattle.std.proofs.Common.{◌≡◌, ℕ, zero, suc, ◌+◌, ◌<◌, ◌≤◌, ◌⊎◌, max, min, List, [], ◌∷◌, ◌++◌, Some, None, MatchOption, Option, length, map, get_or, slice_get, All, AllPairs, Contains, arith, refl, sym, ap, ◌∙◌, subst, inl, inr}
+use Rattle.std.proofs.Common.{◌≡◌, ℕ, ◌+◌, ◌<◌, ◌≤◌, ◌⊎◌, List, [], ◌∷◌, Some, None, MatchOption, Option, length, map, get_or, slice_get, Contains, arith, sym, ap, ◌∙◌, subst, inl, inr}
 use Rattle.std.proofs.lemmas.Bool.{cases_order}
-use Rattle.std.proofs.lemmas.List.{length-map, get_or-map, get_or_default}
+use Rattle.std.proofs.lemmas.List.{length-map, get_or-map}
 use Rattle.std.proofs.lemmas.List.Elements.{All-contains, All-cons, All-nil}
 use Rattle.std.proofs.lemmas.Option.{slice_get_within, get_or_from_slice_get, slice_get-get_or}
-use Rattle.freq_range.specs.Channels.{Holds}
-use Rattle.freq_range.specs.First.{IsFirst}
 use Rattle.freq_range.specs.declared.rule.Rule.{Rule}
 use Rattle.freq_range.proofs.Members.{Contains-head, Contains-later, Contains-cases, Contains-nothing}
 use Rattle.rule_tables.specs.Governing.{RuleHolds, HoldsAt, Governs, NoneGoverns}
@@ -14,9 +12,9 @@ use Rattle.rule_tables.proofs.Governed.{first_or_none, governs_or_none, holds_or
 use Rattle.rule_tables.proofs.Widths.{some_width}
 use Rattle.rule_intersect.proofs.OwnRows.{element_at}
 use Rattle.rule_intersect.specs.declared.row.Row.{Row}
-use Rattle.rule_intersect.specs.Subchannels.{RowHolds, RowHoldsAt, IsFirstRow, NoRowHolds, AreGoverning, IsGoverningRow, EachHasRule, SomeLacksRule}
-use Rattle.rule_intersect.specs.Tables.{AreTuples, AreRows, Joined, IsTableOf}
-use Rattle.rule_intersect.specs.Tuples.{Choice, IsChoice, IsTuple, IsBefore, HasCommonRange, row_of, greatest_by, least_by}
+use Rattle.rule_intersect.specs.Subchannels.{RowHolds, IsFirstRow, NoRowHolds, AreGoverning, IsGoverningRow, EachHasRule, SomeLacksRule}
+use Rattle.rule_intersect.specs.Tables.{AreTuples, Joined, IsTableOf}
+use Rattle.rule_intersect.specs.Tuples.{Choice, IsChoice, IsTuple, IsBefore, row_of, greatest_by, least_by}
 
 -- each rule of the tuple holds the channel
 abbrev pub EachHolds : ℕ → List Choice → Type 0

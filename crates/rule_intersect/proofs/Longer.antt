@@ -1,5 +1,5 @@
 -- Tuples of a list of domains with one more domain at its end.
-use Rattle.std.proofs.Common.{◌≡◌, ℕ, ◌+◌, ◌<◌, ◌≤◌, ◌⊎◌, List, [], ◌∷◌, ◌++◌, length, AllPairs, arith, refl, sym, ap, inl, inr}
+use Rattle.std.proofs.Common.{◌≡◌, ◌<◌, List, [], ◌∷◌, ◌++◌, length, arith, refl, ap, inl, inr}
 use Rattle.rule_tables.specs.declared.domain.Domain.{Domain}
 use Rattle.rule_intersect.specs.Tuples.{Choice, IsChoice, IsTuple, IsBefore}
 

@@ -1,10 +1,10 @@
 -- A list of domains has one table at most, and none where it has a fault.
-use Rattle.std.proofs.Common.{◌≡◌, ℕ, ◌<◌, ◌≤◌, List, length, take, map, Contains, arith, refl, sym, ap, ◌∙◌, subst, inl, inr}
+use Rattle.std.proofs.Common.{◌≡◌, ℕ, ◌<◌, List, length, take, map, Contains, arith, sym, ap, ◌∙◌, subst, inl, inr}
 use Rattle.std.proofs.lemmas.Bool.{cases_order}
 use Rattle.std.proofs.lemmas.List.Elements.{All-contains}
 use Rattle.rule_tables.specs.declared.domain.Domain.{Domain}
 use Rattle.rule_intersect.specs.declared.row.Row.{Row}
-use Rattle.rule_intersect.specs.Tables.{AreTuples, AreRows, HasRows, HasFewRows, Joined, IsTableOf, IsTooMany}
+use Rattle.rule_intersect.specs.Tables.{AreTuples, AreRows, Joined, IsTableOf, IsTooMany}
 use Rattle.rule_intersect.specs.Tuples.{Choice, IsTuple, IsBefore, HasCommonRange, row_of}
 use Rattle.rule_intersect.proofs.Longer.{IsBefore-asymmetric}
 use Rattle.rule_intersect.proofs.Ordered.{one_order}

@@ -1,6 +1,6 @@
 -- Lists in order by a relation that never holds both ways.
-use Rattle.std.proofs.Common.{◌≡◌, ℕ, zero, suc, ◌+◌, ◌<◌, ◌≤◌, List, [], ◌∷◌, ◌++◌, length, get_or, All, AllPairs, Contains, arith, refl, sym, subst, inl, inr}
-use Rattle.std.proofs.lemmas.List.Elements.{Contains-get_or, Contains-append_cases, All-append}
+use Rattle.std.proofs.Common.{◌≡◌, List, [], ◌∷◌, ◌++◌, get_or, All, AllPairs, Contains, refl, sym, subst, inl, inr}
+use Rattle.std.proofs.lemmas.List.Elements.{Contains-get_or, All-append}
 use Rattle.std.proofs.lemmas.List.Kept.{AllPairs-cons}
 use Rattle.freq_range.proofs.Members.{Contains-head, Contains-later, Contains-cases, Contains-nothing}
 use Rattle.rule_tables.proofs.Ascending.{before_rest, pairs_rest}

@@ -1,8 +1,8 @@
 -- The rows of the first rules of a domain, each alone, become those of one rule more.
-use Rattle.std.proofs.Common.{◌≡◌, ℕ, ◌+◌, ◌<◌, ◌≤◌, ◌⊎◌, List, [], ◌∷◌, ◌++◌, Some, zero, suc, length, take, get_or, map, slice_get, All, AllPairs, Contains, arith, refl, sym, ap, ◌∙◌, subst, inl, inr}
+use Rattle.std.proofs.Common.{◌≡◌, ℕ, ◌+◌, ◌<◌, ◌≤◌, List, [], ◌∷◌, ◌++◌, Some, zero, suc, length, take, get_or, map, slice_get, Contains, arith, refl, sym, ap, ◌∙◌, subst, inl, inr}
 use Rattle.std.proofs.lemmas.List.{map-append, take_more, take_all, length-map}
 use Rattle.std.proofs.lemmas.Bool.{cases_lt}
-use Rattle.std.proofs.lemmas.List.Elements.{All-push, All-weaker, All-get_or, All-nil, Contains-append_left, Contains-push}
+use Rattle.std.proofs.lemmas.List.Elements.{All-push, All-weaker, All-nil, Contains-append_left, Contains-push}
 use Rattle.std.proofs.lemmas.List.Quantifiers.{all_pairs_push}
 use Rattle.std.proofs.lemmas.Option.{slice_get-get_or, slice_get_within, get_or_from_slice_get}
 use Rattle.freq_range.specs.declared.rule.Rule.{Rule}
@@ -10,7 +10,7 @@ use Rattle.rule_tables.specs.Width.{IsAllowedWidth}
 use Rattle.rule_tables.proofs.Widths.{IsAllowedWidth-unique, some_width}
 use Rattle.rule_intersect.specs.declared.row.Row.{Row}
 use Rattle.rule_intersect.specs.Own.{AreChoices, AreOwnRows, row_alone}
-use Rattle.rule_intersect.specs.Tuples.{Choice, IsChoice, row_of}
+use Rattle.rule_intersect.specs.Tuples.{Choice, IsChoice}
 
 same_parts : (m n : ℕ) (r s : Rule) (v w : ℕ) → m ≡ n → r ≡ s → v ≡ w
     → ◌≡◌ {A = Choice} (record { number = m; rule = r; width_khz = v }) (record { number = n; rule = s; width_khz = w })

@@ -30,7 +30,7 @@ fn count_one(row: &Row, rules: &[Rule]) -> usize
     ensures small { result ≤ length rules.now }
 {
     let mut count = 0;
-    for (i, rule) in rules.iter().enumerate() {
+    for rule in rules {
         if row.meets_rule(rule) {
             count += 1;
         }
@@ -45,7 +45,7 @@ pub fn count_all(rows: &[Row], rules: &[Rule]) -> usize
     ensures count { result ≡ met_all rows.now rules.now }
 {
     let mut count = 0;
-    for (i, row) in rows.iter().enumerate() {
+    for row in rows {
         count += count_one(row, rules);
     }
     count
@@ -56,7 +56,7 @@ fn push_joined(out: &mut Vec<Row>, row: &Row, others: &[Row]) -> Result<(), Reso
     ensures rows { OnOk result (out.new.items ≡ out.old.items ++ join_one row.now others.now) }
     ensures err { IfErr result (λ e. e ≡ OutOfMemory) }
 {
-    for (i, other) in others.iter().enumerate() {
+    for other in others {
         if row.meets(other) {
             out.push(row.joined(other))?;
         }
@@ -75,7 +75,7 @@ pub fn join_rows(
     ensures err { IfErr result (λ e. e ≡ OutOfMemory) }
 {
     let mut joined = Vec::with_capacity(alloc, count)?;
-    for (i, row) in rows.iter().enumerate() {
+    for row in rows {
         push_joined(&mut joined, row, others)?;
     }
     Ok(joined)

@@ -3,7 +3,7 @@ use Rattle.std.proofs.Common.{◌≡◌, ℕ, zero, suc, ◌+◌, ◌-◌, ◌<�
 use Rattle.std.proofs.lemmas.Bool.{cases_order, cases_lt}
 use Rattle.std.proofs.lemmas.Option.{slice_get-get_or, slice_get_within}
 use Rattle.freq_range.specs.declared.rule.Rule.{Rule}
-use Rattle.rule_tables.specs.Width.{TouchesNext, IsRun, IsRunStart, IsRunEnd, IsRunWidth, IsAllowedWidth}
+use Rattle.rule_tables.specs.Width.{TouchesNext, IsRunStart, IsRunEnd, IsRunWidth, IsAllowedWidth}
 
 run_start_unique : (rules : List Rule) (k i j : ℕ) → IsRunStart rules k i → IsRunStart rules k j → i ≡ j
 run_start_unique rules k i j one other = elim (cases_order i j) [
@@ -57,60 +57,78 @@ touches_or_not rules i r in_range =
         rw (sym p, sym q) meet
 
 some_start : (rules : List Rule) (r : Rule) (k : ℕ) → k < length rules → (j : ℕ) × IsRunStart rules k j
-some_start rules r zero in_range = (0, record {
-  within = omega arith;
-  run = λ i low high. absurd (omega arith);
-  least = λ i low run. omega arith;
-})
+some_start rules r zero in_range = (
+  0,
+  record {
+    within = omega arith;
+    run = λ i low high. absurd (omega arith);
+    least = λ i low run. omega arith;
+  },
+)
 some_start rules r (suc k) in_range = elim (touches_or_not rules k r (omega arith)) [
   | inl touches ↦ longer touches (some_start rules r k (omega arith))
-  | inr apart ↦ (suc k, record {
+  | inr apart ↦ (
+    suc k,
+    record {
       within = omega arith;
       run = λ i low high. absurd (omega arith);
       least = λ i low run. apart (run k (omega arith) (omega arith));
-    })
+    },
+  )
 ]
   where
     longer : TouchesNext rules k → (j : ℕ) × IsRunStart rules k j → (j : ℕ) × IsRunStart rules (suc k) j
-    longer touches (j, start) = (j, record {
-      within = let within = start.within in omega arith;
-      run = λ i low high. elim (cases_order i k) [
-        | inl same ↦ rw same touches
-        | inr (inl below) ↦ start.run i low below
-        | inr (inr above) ↦ absurd (omega arith)
-      ];
-      least = λ i low run. start.least i low (λ n from to. run n from (omega arith));
-    })
+    longer touches (j, start) = (
+      j,
+      record {
+        within = let within = start.within in omega arith;
+        run = λ i low high. elim (cases_order i k) [
+          | inl same ↦ rw same touches
+          | inr (inl below) ↦ start.run i low below
+          | inr (inr above) ↦ absurd (omega arith)
+        ];
+        least = λ i low run. start.least i low (λ n from to. run n from (omega arith));
+      },
+    )
 
 -- n more rules stand behind rule k
 some_end : (rules : List Rule) (r : Rule) (n k : ℕ) → k + suc n ≡ length rules → (m : ℕ) × IsRunEnd rules k m
-some_end rules r zero k count = (k, record {
-  within = omega arith;
-  in_range = omega arith;
-  run = λ i low high. absurd (omega arith);
-  greatest = λ i above in_range run. omega arith;
-})
+some_end rules r zero k count = (
+  k,
+  record {
+    within = omega arith;
+    in_range = omega arith;
+    run = λ i low high. absurd (omega arith);
+    greatest = λ i above in_range run. omega arith;
+  },
+)
 some_end rules r (suc n) k count = elim (touches_or_not rules k r (omega arith)) [
   | inl touches ↦ longer touches (some_end rules r n (k + 1) (omega arith))
-  | inr apart ↦ (k, record {
+  | inr apart ↦ (
+    k,
+    record {
       within = omega arith;
       in_range = omega arith;
       run = λ i low high. absurd (omega arith);
       greatest = λ i above in_range run. apart (run k (omega arith) above);
-    })
+    },
+  )
 ]
   where
     longer : TouchesNext rules k → (m : ℕ) × IsRunEnd rules (k + 1) m → (m : ℕ) × IsRunEnd rules k m
-    longer touches (m, end) = (m, record {
-      within = let within = end.within in omega arith;
-      in_range = end.in_range;
-      run = λ i low high. elim (cases_order i k) [
-        | inl same ↦ rw same touches
-        | inr (inl below) ↦ absurd (omega arith)
-        | inr (inr above) ↦ end.run i (omega arith) high
-      ];
-      greatest = λ i above in_range run. end.greatest i above in_range (λ n from to. run n (omega arith) to);
-    })
+    longer touches (m, end) = (
+      m,
+      record {
+        within = let within = end.within in omega arith;
+        in_range = end.in_range;
+        run = λ i low high. elim (cases_order i k) [
+          | inl same ↦ rw same touches
+          | inr (inl below) ↦ absurd (omega arith)
+          | inr (inr above) ↦ end.run i (omega arith) high
+        ];
+        greatest = λ i above in_range run. end.greatest i above in_range (λ n from to. run n (omega arith) to);
+      },
+    )
 
 some_run_width : (rules : List Rule) (r : Rule) (k : ℕ) → k < length rules → (w : ℕ) × IsRunWidth rules k w
 some_run_width rules r k in_range =
@@ -120,14 +138,16 @@ some_run_width rules r k in_range =
     let l = get_or rules end.0 r in
     let low = start.1.within in
     let at_f = slice_get-get_or rules start.0 r (omega arith) in
-    let at_l = slice_get-get_or rules end.0 r end.1.in_range in
-    (l.end_khz - f.start_khz, record {
-      first = start.0;
-      last = end.0;
-      starts = start.1;
-      ends = end.1;
-      span = λ a b at_a at_b. same_span start.0 end.0 at_f at_l at_a at_b;
-    })
+    let at_l = slice_get-get_or rules end.0 r end.1.in_range in (
+      l.end_khz - f.start_khz,
+      record {
+        first = start.0;
+        last = end.0;
+        starts = start.1;
+        ends = end.1;
+        span = λ a b at_a at_b. same_span start.0 end.0 at_f at_l at_a at_b;
+      },
+    )
   where
     same_span : (i j : ℕ) {a b c d : Rule} → slice_get rules i ≡ Some a → slice_get rules j ≡ Some b → slice_get rules i ≡ Some c → slice_get rules j ≡ Some d
         → b.end_khz - a.start_khz ≡ d.end_khz - c.start_khz
@@ -149,6 +169,7 @@ some_width rules k r at = by_auto r.flags.auto_bw refl
   where
     same_some : {a b : Rule} → Some a ≡ Some b → a ≡ b
     same_some {a} {b} p = cc
+
     by_auto : (flag : Bool) → r.flags.auto_bw ≡ flag → (w : ℕ) × IsAllowedWidth rules k w
     by_auto true is =
         let run = some_run_width rules r k (slice_get_within rules k r at) in

@@ -1,4 +1,4 @@
-use Rattle.std.proofs.Common.{ℕ, ◌-◌, ◌<◌, ◌≤◌, length}
+use Rattle.std.proofs.Common.{◌-◌, ◌<◌, ◌≤◌, length}
 use Rattle.rule_tables.specs.Width.{IsRun}
 use Rattle.rule_tables.proofs.width.run_end.Given as goal
 

@@ -1,4 +1,4 @@
-use Rattle.std.proofs.Common.{ℕ, ◌≤◌}
+use Rattle.std.proofs.Common.{◌≤◌}
 use Rattle.rule_tables.specs.Width.{IsRun}
 use Rattle.rule_tables.proofs.width.run_start.Given as goal
 
