@@ -4,3 +4,5 @@ pub mod InOrder
 pub mod Refused
 pub mod Repeats
 pub mod Dropped
+pub mod Widths
+pub mod Governed

@@ -3,3 +3,5 @@ pub mod Databases
 pub mod Domains
 pub mod FileFaults
 pub mod FileFormat
+pub mod Governing
+pub mod Width

@@ -5,8 +5,12 @@ mod code;
 mod database;
 mod domain;
 mod file_fault;
+mod govern;
+mod width;
 
 pub use code::{Alpha2, Region};
 pub use database::{Db, DbInsertFault};
 pub use domain::{Domain, DomainFault};
 pub use file_fault::DbFault;
+pub use govern::governing;
+pub use width::{allowed_width, width_among};

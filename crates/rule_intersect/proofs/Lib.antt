@@ -1,0 +1,10 @@
+pub mod OwnRows
+pub mod Greatest
+pub mod Longer
+pub mod Ordered
+pub mod Extended
+pub mod Counted
+pub mod Resolved
+pub mod Lawful
+pub mod OneTable
+pub mod Answered
