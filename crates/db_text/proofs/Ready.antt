@@ -1,13 +1,12 @@
 -- The domains of a text without a fault are those of a database.
 use Rattle.std.proofs.Common.{ℕ, ◌<◌, List, length, get_or, All, arith, ap}
 use Rattle.std.proofs.lemmas.List.Elements.{Contains-get_or}
-use Rattle.rule_tables.proofs.Dropped.{DropsRepeats-only}
+use Rattle.rule_tables.proofs.Dropped.{DropsRepeats-only, dropped_distinct}
 use Rattle.rule_tables.specs.Code.{key}
 use Rattle.db_text.specs.declared.countries.Country.{Country as Kept}
 use Rattle.db_text.specs.Forms.{Form, rules_of}
 use Rattle.db_text.specs.State.{AreAllCountries, AreReady}
 use Rattle.db_text.proofs.Built.{IsWhole, valid_rule}
-use Rattle.db_text.proofs.EqualRules.{dropped_distinct}
 
 pub ready : (lines : List (List ℕ)) (forms : List Form) (cs : List Kept) → IsWhole lines forms → AreAllCountries forms cs → All (λ c. 0 < length c.rules) cs → AreReady cs
 ready lines forms cs whole countries some = record {
