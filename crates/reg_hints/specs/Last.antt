@@ -46,3 +46,10 @@ is_element_of_other Core r = false
 is_element_of_other (User alpha2 intersected) r = false
 is_element_of_other (Driver alpha2) r = false
 is_element_of_other (Element radio alpha2) r = not (radio == r)
+
+-- a country element that this radio heard
+abbrev pub is_element_of : Last → ℕ → Bool
+is_element_of Core r = false
+is_element_of (User alpha2 intersected) r = false
+is_element_of (Driver alpha2) r = false
+is_element_of (Element radio alpha2) r = radio == r

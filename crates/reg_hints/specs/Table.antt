@@ -1,7 +1,7 @@
 -- How a hint is treated, and what it leaves.
 use Rattle.std.specs.Prelude.{◌≡◌, ℕ, ◌==◌, ◌≤◌, ◌<◌, Bool, true, false, not, ◌&&◌, List, [], ◌∷◌, ◌++◌, length, if◌then◌else◌}
 use Rattle.rule_tables.specs.declared.code.Alpha2.{Alpha2}
-use Rattle.reg_hints.specs.Last.{world, code_of, is_core, is_intersected_user, is_driver, is_element, is_element_of_other}
+use Rattle.reg_hints.specs.Last.{world, code_of, is_core, is_intersected_user, is_driver, is_element, is_element_of, is_element_of_other}
 use Rattle.reg_hints.specs.declared.hint.Hint.{Hint}
 use Rattle.reg_hints.specs.declared.hint.Hint.TheVariants.{User, Driver, Element}
 use Rattle.reg_hints.specs.declared.hint.Last.{Last}
@@ -19,35 +19,35 @@ pub record State : Type 0 where
 abbrev pub opening : State
 opening = record { last = Core; global = world ∷ [] }
 
-abbrev pub is_code : Alpha2 → Alpha2 → Bool
-is_code one other = one.a == other.a && one.b == other.b
+abbrev pub is_same_code : Alpha2 → Alpha2 → Bool
+is_same_code one other = one.a == other.a && one.b == other.b
 
 -- the list is exactly this code
 abbrev pub is_only : List Alpha2 → Alpha2 → Bool
 is_only [] a = false
-is_only (code ∷ []) a = is_code code a
+is_only (code ∷ []) a = is_same_code code a
 is_only (code ∷ next ∷ rest) a = false
 
 -- The table of hints. The first line that matches decides.
 abbrev pub treatment : State → Hint → Treatment
 treatment s (User a) =
-  if is_element s.last then Intersect
-  else if is_intersected_user s.last then Ignore
-  else if not (is_only s.global (code_of s.last)) then Ignore
-  else if is_only s.global a then Already
-  else Replace
+    if is_element s.last then Intersect
+    else if is_intersected_user s.last then Ignore
+    else if not (is_only s.global (code_of s.last)) then Ignore
+    else if is_only s.global a then Already
+    else Replace
 treatment s (Driver r a) =
-  if is_core s.last && is_only s.global a then Already
-  else if is_core s.last then Replace
-  else if is_driver s.last && is_only s.global a then Already
-  else Intersect
+    if is_core s.last && is_only s.global a then Already
+    else if is_core s.last then Replace
+    else if is_driver s.last && is_only s.global a then Already
+    else Intersect
 treatment s (Element r a deaf) =
-  if deaf then Ignore
-  else if not (is_element s.last) then Replace
-  else if is_element_of_other s.last r && is_only s.global a then Already
-  else if is_element_of_other s.last r then Ignore
-  else if is_only s.global a then Already
-  else Replace
+    if deaf then Ignore
+    else if not (is_element s.last) then Replace
+    else if is_element_of_other s.last r && is_only s.global a then Already
+    else if is_element_of_other s.last r then Ignore
+    else if is_element_of s.last r && is_only s.global a then Already
+    else Replace
 
 -- the code that a hint names
 abbrev pub hinted_code : Hint → Alpha2

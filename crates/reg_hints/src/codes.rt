@@ -72,11 +72,12 @@ impl CodeList {
 }
 
 /// Whether this code is the only one.
+#[tactic(auto, using(crate::proofs::Cases::same_code))]
 fn is_only(codes: &[Alpha2], code: &Alpha2) -> bool
     ensures { result ≡ is_only codes.now code.now }
 {
     match codes {
-        [only] => only.a == code.a && only.b == code.b,
+        [only] => only.is_same(code),
         _ => false,
     }
 }

@@ -5,13 +5,19 @@ ghost use Rattle.std.specs.Prelude.{◌≡◌};
 use crate::radio::RadioNo;
 use rule_tables::Alpha2;
 
+/// The code of the world's domain.
+pub(crate) const WORLD: Alpha2 = Alpha2 { a: b'0', b: b'0' };
+
 /// A hint at the country in which the radios are.
 #[derive(Clone, Copy, Debug, PartialEq, Eq)]
 pub enum Hint {
     /// A user's (`NL80211_REGDOM_SET_BY_USER`).
     User(Alpha2),
     /// A driver's, of its radio (`NL80211_REGDOM_SET_BY_DRIVER`).
-    Driver { radio: RadioNo, alpha2: Alpha2 },
+    Driver {
+        radio: RadioNo,
+        alpha2: Alpha2,
+    },
     /// A country element that a radio heard (`NL80211_REGDOM_SET_BY_COUNTRY_IE`). It is `deaf` where
     /// the radio ignores elements or manages itself.
     Element {
@@ -55,7 +61,8 @@ impl Hint {
         ensures { result ≡ hinted_code self.now }
     {
         match self {
-            Hint::User(alpha2) | Hint::Driver { alpha2, .. } | Hint::Element { alpha2, .. } => *alpha2,
+            Hint::User(alpha2) | Hint::Driver { alpha2, .. } | Hint::Element { alpha2, .. } =>
+                *alpha2,
         }
     }
 
@@ -95,10 +102,12 @@ impl Last {
         ensures { result ≡ code_of self.now }
     {
         match self {
-            Last::Core => Alpha2 { a: b'0', b: b'0' },
-            Last::User { alpha2, .. } | Last::Driver { alpha2 } | Last::Element { alpha2, .. } => *alpha2,
+            Last::Core => WORLD,
+            Last::User { alpha2, .. } | Last::Driver { alpha2 } | Last::Element { alpha2, .. } =>
+                *alpha2,
         }
     }
+
     pub(crate) fn is_core(&self) -> bool
         ensures { result ≡ is_core self.now }
     {
@@ -132,7 +141,10 @@ impl Last {
         ensures { result ≡ is_element_of_other self.now radio.now }
     {
         match self {
-            Last::Element { radio: heard_by, .. } => !heard_by.is_same(radio),
+            Last::Element {
+                radio: heard_by,
+                ..
+            } => !heard_by.is_same(radio),
             Last::Core | Last::User { .. } | Last::Driver { .. } => false,
         }
     }

@@ -4,7 +4,7 @@ ghost use Rattle.std.specs.Prelude.{◌≡◌, List, ◌∷◌, slice_get, Match
 ghost use Rattle.reg_hints.specs.Table.{Hinted, Treated, IsGlobal, IsOneTooMany, opening, treatment, after, after_all};
 
 use crate::codes::CodeList;
-use crate::hint::{Hint, Last, Treatment};
+use crate::hint::{Hint, Last, Treatment, WORLD};
 use crate::radio::RadioNo;
 use rule_tables::Alpha2;
 use std::marker::Model;
@@ -36,7 +36,7 @@ impl Hints {
     {
         Hints {
             last: Last::Core,
-            global: CodeList::one(Alpha2 { a: b'0', b: b'0' }),
+            global: CodeList::one(WORLD),
         }
     }
 
@@ -111,9 +111,7 @@ impl Hints {
     {
         if self.last.is_element() {
             Treatment::Intersect
-        } else if self.last.is_intersected_user() {
-            Treatment::Ignore
-        } else if !self.global.is_only(&self.last.alpha2()) {
+        } else if self.last.is_intersected_user() || !self.global.is_only(&self.last.alpha2()) {
             Treatment::Ignore
         } else if self.global.is_only(alpha2) {
             Treatment::Already
@@ -140,6 +138,7 @@ impl Hints {
     }
 
     /// How a country element is treated (`reg_process_hint_country_ie`).
+    #[tactic(auto, using(crate::proofs::Cases::of_this_radio))]
     fn treat_element(&self, radio: &RadioNo, alpha2: &Alpha2, deaf: bool) -> Treatment
         ensures { result ≡ treatment self.now (Hint.Element radio.now alpha2.now deaf) }
     {

@@ -11,3 +11,6 @@ pub use element::{Element, ElementFault, read_country_element};
 pub use hint::{Hint, Last, Treatment};
 pub use hints::{Hints, TooManyDomains};
 pub use radio::RadioNo;
+
+#[cfg(test)]
+mod tests;
