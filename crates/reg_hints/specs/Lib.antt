@@ -1,0 +1,3 @@
+pub mod Element
+pub mod Last
+pub mod Table

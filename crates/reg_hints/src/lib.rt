@@ -1,0 +1,16 @@
+//! Hints at the country: how each is treated, and the global list of domains that they lead to.
+#![tactic(auto)]
+
+mod codes;
+mod element;
+mod hint;
+mod hints;
+mod radio;
+
+pub use element::{Element, ElementFault, read_country_element};
+pub use hint::{Hint, Last, Treatment};
+pub use hints::{Hints, TooManyDomains};
+pub use radio::RadioNo;
+
+#[cfg(test)]
+mod tests;
