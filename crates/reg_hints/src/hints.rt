@@ -13,8 +13,8 @@ use std::marker::Model;
 #[derive(Clone, Copy, Debug, PartialEq, Eq)]
 pub struct TooManyDomains;
 
-/// The last hint, and the global list: one to four codes, whose domains apply to every radio that doesn't
-/// manage itself (`get_cfg80211_regdom`).
+/// The last hint, and the global list: one to four codes, whose domains apply to every radio that
+/// doesn't manage itself (`get_cfg80211_regdom`).
 #[derive(Debug, Drop)]
 pub struct Hints {
     last: Last,
