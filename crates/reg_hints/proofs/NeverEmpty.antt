@@ -1,5 +1,5 @@
 -- No hint empties the global list.
-use Rattle.std.proofs.Common.{ℕ, ◌<◌, List, [], ◌∷◌, length, rules, arith}
+use Rattle.std.proofs.Common.{◌<◌, List, [], ◌∷◌, length, arith}
 use Rattle.std.proofs.lemmas.List.{length-append}
 use Rattle.reg_hints.specs.Table.{State, Hinted, Treated, Own, treatment, left_by, after_all, hinted_code}
 use Rattle.reg_hints.specs.declared.hint.Hint.{Hint}
