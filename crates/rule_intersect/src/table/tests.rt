@@ -6,6 +6,7 @@ use crate::row::Row;
 use freq_range::{Rule, RuleFlags, RuleList};
 use rule_tables::{Alpha2, Domain, Region};
 use std::alloc::Global;
+use std::process::Abort;
 use std::test::Fail;
 
 /// A rule between these ends, in MHz, of this width, in MHz, and power, in mBm.
@@ -61,6 +62,32 @@ fn next(table: &Table, d: &Domain) -> Result<Table, ResolveFault> {
         Ok(()) if table.domains() < 1024 => table.next(d),
         _ => Err(ResolveFault::OutOfMemory),
     }
+}
+
+/// The table of a list of domains that pass their checks.
+fn table_of(alloc: Global, domains: &[Domain]) -> Result<Table, ResolveFault> {
+    let Some((head, others)) = domains.split_first() else {
+        return Err(ResolveFault::OutOfMemory);
+    };
+    let mut table = first(alloc, head)?;
+    for domain in others {
+        table = next(&table, domain)?;
+    }
+    Ok(table)
+}
+
+/// The list of domains is refused so.
+fn assert_refused<R: Abort>(
+    rt: &R,
+    alloc: Global,
+    domains: &[Domain],
+    fault: ResolveFault,
+) -> Result<(), Fail> {
+    match table_of(alloc, domains) {
+        Ok(table) => assert!(rt; false, "{} rows", table.len()),
+        Err(found) => assert_eq!(rt; found, fault),
+    }
+    Ok(())
 }
 
 const DFS: RuleFlags = RuleFlags {
@@ -182,36 +209,28 @@ fn two_countries_join_their_powers_and_flags(rt: HostRuntime) -> Result<(), Fail
 
 #[test]
 fn the_least_prefix_with_too_many_rows_is_named(rt: HostRuntime) -> Result<(), Fail> {
-    let two = domain_of(rt.alloc(), 2)?;
-    let many = first(rt.alloc(), &domain_of(rt.alloc(), 33)?)?;
-    match next(&many, &domain_of(rt.alloc(), 32)?) {
-        Ok(table) => assert!(rt; false, "{} rows", table.len()),
-        Err(found) => {
-            assert_eq!(rt;
-                found,
-                ResolveFault::TooManyRows {
-                    after: 2,
-                    rows: 1056
-                }
-            )
-        }
-    }
-    let most = next(
-        &first(rt.alloc(), &domain_of(rt.alloc(), 32)?)?,
-        &domain_of(rt.alloc(), 32)?,
-    )?;
-    assert_eq!(rt; most.len(), 1024);
-    match next(&most, &two) {
-        Ok(table) => assert!(rt; false, "{} rows", table.len()),
-        Err(found) => {
-            assert_eq!(rt;
-                found,
-                ResolveFault::TooManyRows {
-                    after: 3,
-                    rows: 2048
-                }
-            )
-        }
-    }
-    Ok(())
+    let alloc = rt.alloc();
+    // The third domain isn't asked, as two have too many rows.
+    let second_is_too_many = [
+        domain_of(alloc, 33)?,
+        domain_of(alloc, 32)?,
+        domain_of(alloc, 2)?,
+    ];
+    let fault = ResolveFault::TooManyRows {
+        after: 2,
+        rows: 1056,
+    };
+    assert_refused(&rt, alloc, &second_is_too_many[..2], fault)?;
+    assert_refused(&rt, alloc, &second_is_too_many, fault)?;
+    let third_is_too_many = [
+        domain_of(alloc, 32)?,
+        domain_of(alloc, 32)?,
+        domain_of(alloc, 2)?,
+    ];
+    assert_eq!(rt; table_of(alloc, &third_is_too_many[..2])?.len(), 1024);
+    let fault = ResolveFault::TooManyRows {
+        after: 3,
+        rows: 2048,
+    };
+    assert_refused(&rt, alloc, &third_is_too_many, fault)
 }

@@ -1,0 +1,48 @@
+//! Joins domains.
+
+use crate::stop::Stop;
+use rule_intersect::Table;
+use rule_tables::Domain;
+use std::alloc::Global;
+
+/// How often the domains are joined.
+pub const ROUNDS: u32 = 10_000;
+
+/// The most domains of a table.
+const MOST_DOMAINS: usize = 1024;
+
+/// The table with the domain at its end.
+fn join_one(table: &Table, domain: &Domain) -> Result<Table, Stop> {
+    domain.check()?;
+    if table.domains() >= MOST_DOMAINS {
+        return Err(Stop);
+    }
+    Ok(table.next(domain)?)
+}
+
+/// Joins all the domains, one after another. The answer is how many pairs of a row and a rule were
+/// tried.
+fn join_all(alloc: Global, domains: &[Domain]) -> Result<u64, Stop> {
+    let Some((first, others)) = domains.split_first() else {
+        return Err(Stop);
+    };
+    first.check()?;
+    let mut table = Table::first(alloc, first)?;
+    let mut pairs = 0u64;
+    for domain in others {
+        let joined = join_one(&table, domain)?;
+        let tried = (table.len() as u64).saturating_mul(domain.rules.len() as u64);
+        pairs = pairs.saturating_add(tried);
+        table = joined;
+    }
+    Ok(pairs)
+}
+
+/// Joins all the domains many times.
+pub fn join_often(alloc: Global, domains: &[Domain]) -> Result<u64, Stop> {
+    let mut pairs = 0u64;
+    for _round in 0..ROUNDS {
+        pairs = pairs.saturating_add(join_all(alloc, domains)?);
+    }
+    Ok(pairs)
+}
