@@ -6,7 +6,7 @@ use rule_tables::Domain;
 use std::alloc::Global;
 
 /// How often the domains are joined.
-pub const ROUNDS: u32 = 10_000;
+pub(crate) const ROUNDS: u32 = 10_000;
 
 /// The most domains of a table.
 const MOST_DOMAINS: usize = 1024;
@@ -39,7 +39,7 @@ fn join_all(alloc: Global, domains: &[Domain]) -> Result<u64, Stop> {
 }
 
 /// Joins all the domains many times.
-pub fn join_often(alloc: Global, domains: &[Domain]) -> Result<u64, Stop> {
+pub(crate) fn join_often(alloc: Global, domains: &[Domain]) -> Result<u64, Stop> {
     let mut pairs = 0u64;
     for _round in 0..ROUNDS {
         pairs = pairs.saturating_add(join_all(alloc, domains)?);

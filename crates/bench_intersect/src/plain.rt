@@ -44,7 +44,7 @@ fn compare_all(domains: &[Domain], least: u32) -> u64 {
 }
 
 /// Compares the rules of neighbouring domains many times. The answer is how many pairs were compared.
-pub fn compare_often(domains: &[Domain]) -> u64 {
+pub(crate) fn compare_often(domains: &[Domain]) -> u64 {
     let mut pairs = 0u64;
     // The round stands for a frequency below all rules, so that no two rounds are the same to a compiler.
     for round in 0..ROUNDS {

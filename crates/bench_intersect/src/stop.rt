@@ -7,7 +7,7 @@ use std::io;
 
 /// The words, the text or its tables are no good, or no memory was found.
 #[derive(Clone, Copy, Debug)]
-pub struct Stop;
+pub(crate) struct Stop;
 
 impl From<io::Error> for Stop {
     fn from(_error: io::Error) -> Stop {

@@ -14,7 +14,7 @@ const MOST: u64 = 1 << 30;
 
 /// Why a stream wasn't taken to its end.
 #[derive(Clone, Copy, Debug, PartialEq, Eq)]
-pub enum Stop {
+pub(crate) enum Stop {
     /// The word is no size of pieces.
     Usage,
     /// A read failed.
@@ -83,7 +83,11 @@ fn feed_all(decoder: &mut Decoder, bytes: &[u8], size: usize) -> Result<(), Stop
 
 /// Takes the messages of the input, in pieces of this size, to its end. The answer is how many bytes
 /// they have.
-pub fn take_stream<S: Source>(alloc: Global, input: &mut S, size: usize) -> Result<u64, Stop> {
+pub(crate) fn take_stream<S: Source>(
+    alloc: Global,
+    input: &mut S,
+    size: usize,
+) -> Result<u64, Stop> {
     if size == 0 {
         return Err(Stop::Usage);
     }
