@@ -1,5 +1,6 @@
 //! Joins domains.
 
+use crate::count::Count;
 use crate::stop::Stop;
 use rule_intersect::Table;
 use rule_tables::Domain;
@@ -20,29 +21,30 @@ fn join_one(table: &Table, domain: &Domain) -> Result<Table, Stop> {
     Ok(table.next(domain)?)
 }
 
-/// Joins all the domains, one after another. The answer is how many pairs of a row and a rule were
-/// tried.
-fn join_all(alloc: Global, domains: &[Domain]) -> Result<u64, Stop> {
+/// Joins all the domains, one after another. A pair is a row and a rule.
+fn join_all(alloc: Global, domains: &[Domain]) -> Result<Count, Stop> {
     let Some((first, others)) = domains.split_first() else {
         return Err(Stop);
     };
     first.check()?;
     let mut table = Table::first(alloc, first)?;
-    let mut pairs = 0u64;
+    let mut count = Count::NONE;
     for domain in others {
         let joined = join_one(&table, domain)?;
-        let tried = (table.len() as u64).saturating_mul(domain.rules.len() as u64);
-        pairs = pairs.saturating_add(tried);
+        count = count.and(&Count {
+            pairs: (table.len() as u64).saturating_mul(domain.rules.len() as u64),
+            found: joined.len() as u64,
+        });
         table = joined;
     }
-    Ok(pairs)
+    Ok(count)
 }
 
 /// Joins all the domains many times.
-pub(crate) fn join_often(alloc: Global, domains: &[Domain]) -> Result<u64, Stop> {
-    let mut pairs = 0u64;
+pub(crate) fn join_often(alloc: Global, domains: &[Domain]) -> Result<Count, Stop> {
+    let mut count = Count::NONE;
     for _round in 0..ROUNDS {
-        pairs = pairs.saturating_add(join_all(alloc, domains)?);
+        count = count.and(&join_all(alloc, domains)?);
     }
-    Ok(pairs)
+    Ok(count)
 }

@@ -2,10 +2,12 @@
 //! their rules beside it.
 #![tactic(auto)]
 
+mod count;
 mod joined;
 mod plain;
 mod stop;
 
+use crate::count::Count;
 use crate::joined::join_often;
 use crate::plain::compare_often;
 use crate::stop::Stop;
@@ -40,8 +42,8 @@ fn database(rt: &HostRuntime) -> Result<Db, Stop> {
     Ok(parse(rt.alloc(), text.as_slice())?)
 }
 
-/// How many pairs the task has tried.
-fn run(rt: &HostRuntime) -> Result<u64, Stop> {
+/// What the task has done.
+fn run(rt: &HostRuntime) -> Result<Count, Stop> {
     let task = named_task(rt)?;
     let db = database(rt)?;
     match task {
@@ -52,7 +54,7 @@ fn run(rt: &HostRuntime) -> Result<u64, Stop> {
 
 fn main(rt: HostRuntime) -> ExitCode {
     let told = match run(&rt) {
-        Ok(pairs) => println!(rt; "{pairs} pairs"),
+        Ok(count) => println!(rt; "{} pairs, {} in common", count.pairs, count.found),
         Err(_stop) => return ExitCode::from(1),
     };
     ExitCode::from(u8::from(told.is_err()))
