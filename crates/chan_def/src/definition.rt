@@ -20,7 +20,7 @@ impl ChanDef {
     /// Whether the control channel is one of the channel table and one of the subchannels
     /// (`cfg80211_chandef_valid`).
     pub fn valid(&self) -> bool
-        ensures { IsTrue result ↔ IsValidDef self.now }
+        ensures valid { IsTrue result ↔ IsValidDef self.now }
     {
         khz_channel(self.control_khz).is_some()
             && is_inside(self.width.khz(), self.centre_khz, self.control_khz)
@@ -28,7 +28,7 @@ impl ChanDef {
 
     /// Whether both are the same definition.
     pub fn is_same(&self, other: &ChanDef) -> bool
-        ensures { IsTrue result ↔ (self.now ≡ other.now) }
+        ensures same { IsTrue result ↔ (self.now ≡ other.now) }
     {
         self.control_khz == other.control_khz
             && self.width == other.width
@@ -40,7 +40,7 @@ impl ChanDef {
 /// exactly where `i` isn't below the number of subchannels.
 pub fn subchannels(c: &ChanDef, i: u8) -> Option<u32>
     requires { IsValidDef c.now }
-    ensures { MatchOption result (width_khz c.now.width / 20000 ≤ i)
+    ensures subchannel { MatchOption result (width_khz c.now.width / 20000 ≤ i)
         (λ khz. IsSubchannel (width_khz c.now.width) c.now.centre_khz i khz) }
 {
     let width_khz = c.width.khz();
@@ -54,7 +54,7 @@ pub fn subchannels(c: &ChanDef, i: u8) -> Option<u32>
 
 /// Whether one of the subchannels has this centre, in kHz.
 pub fn covers(c: &ChanDef, khz: u32) -> bool
-    ensures { IsTrue result ↔ IsCovered c.now khz }
+    ensures covered { IsTrue result ↔ IsCovered c.now khz }
 {
     is_inside(c.width.khz(), c.centre_khz, khz)
 }

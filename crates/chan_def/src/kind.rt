@@ -23,7 +23,7 @@ impl Kind {
     /// Whether an interface of this kind sends first, and so asks for leave to initiate radiation
     /// (`NL80211_RRF_NO_IR`).
     pub fn initiates(self) -> bool
-        ensures { result ≡ initiates self }
+        ensures initiates { result ≡ initiates self }
     {
         match self {
             Kind::Ap | Kind::Ibss | Kind::Mesh => true,

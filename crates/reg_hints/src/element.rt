@@ -27,7 +27,7 @@ pub enum ElementFault {
 /// Reads the body of a country element (`regulatory_hint_country_ie`), or the first of `Short`,
 /// `Odd`, `NotLetters` that applies.
 pub fn read_country_element(body: &[u8]) -> Result<Element, ElementFault>
-    ensures { MatchResult result (IsElement body.now) (IsElementFault body.now) }
+    ensures element { MatchResult result (IsElement body.now) (IsElementFault body.now) }
 {
     if body.len() < 6 {
         return Err(ElementFault::Short(body.len()));

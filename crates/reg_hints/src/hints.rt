@@ -32,7 +32,7 @@ impl Model for Hints {
 impl Hints {
     /// No hint yet, and the world's domain alone.
     pub fn new() -> Hints
-        ensures { result ≡ opening }
+        ensures opening { result ≡ opening }
     {
         Hints {
             last: Last::Core,
@@ -42,7 +42,7 @@ impl Hints {
 
     /// The last hint that was taken.
     pub fn last(&self) -> Last
-        ensures { result ≡ self.now.last }
+        ensures last { result ≡ self.now.last }
     {
         self.last
     }
@@ -57,7 +57,7 @@ impl Hints {
 
     /// How the hint is treated (`__reg_process_hint`).
     pub fn treat(&self, h: &Hint) -> Treatment
-        ensures { result ≡ treatment self.now h.now }
+        ensures table { result ≡ treatment self.now h.now }
     {
         match h {
             Hint::User(alpha2) => self.treat_user(alpha2),

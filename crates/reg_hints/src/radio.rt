@@ -23,7 +23,7 @@ impl Model for RadioNo {
 impl RadioNo {
     /// The radio of this number. `None` exactly above 7.
     pub fn new(n: u32) -> Option<RadioNo>
-        ensures { MatchOption result (7 < n) (λ radio. radio ≡ n) }
+        ensures radio { MatchOption result (7 < n) (λ radio. radio ≡ n) }
     {
         if n > 7 {
             return None;
