@@ -2,8 +2,11 @@
 use Rattle.std.specs.Prelude.{ℕ, List, [], ◌∷◌, ◌++◌, codes, decimal}
 use Rattle.db_text.specs.declared.fault.TextKind.{TextKind}
 use Rattle.db_text.specs.declared.fault.TextKind.TheVariants.{LineTooLong, NotUtf8, BadLine, NoBlock, BadCountry, BadRegion, RegionDiffers, BadBand, BadPower, BadFlag, FlagNotInVersion, NoWmm, BadWmm, WmmTwice, TooManyRules, WmmShort, NoRules}
+use Rattle.rule_tables.specs.declared.file_fault.DbFault.{DbFault}
+use Rattle.rule_tables.specs.declared.file_fault.DbFault.TheVariants.{Short, BadMagic, BadVersion, BadAlpha2, CountryTwice, BadCollection, BadRegion as BadRegionByte, BadRule, BadWmm as BadWmmRecord}
+use Rattle.regtool.specs.Lines.{line_of}
 use Rattle.regtool.specs.declared.status.InputFault.{InputFault}
-use Rattle.regtool.specs.declared.status.InputFault.TheVariants.{Text, Layout}
+use Rattle.regtool.specs.declared.status.InputFault.TheVariants.{Text, Database, Layout}
 use Rattle.regtool.specs.declared.status.Status.{Status}
 use Rattle.regtool.specs.declared.status.Status.TheVariants.{Done, Usage, Refused, ReadFault, WriteFault, NoMemory, TooLong}
 
@@ -35,13 +38,22 @@ kind_name TooManyRules = codes "TooManyRules"
 kind_name WmmShort = codes "WmmShort"
 kind_name NoRules = codes "NoRules"
 
+-- the name of a fault of a database file, without its values
+abbrev pub database_fault_name : DbFault → List ℕ
+database_fault_name (Short length) = codes "Short"
+database_fault_name (BadMagic magic) = codes "BadMagic"
+database_fault_name (BadVersion version) = codes "BadVersion"
+database_fault_name (BadAlpha2 first second) = codes "BadAlpha2"
+database_fault_name (CountryTwice code) = codes "CountryTwice"
+database_fault_name (BadCollection code) = codes "BadCollection"
+database_fault_name (BadRegionByte code region) = codes "BadRegion"
+database_fault_name (BadRule code rule) = codes "BadRule"
+database_fault_name (BadWmmRecord code rule) = codes "BadWmm"
+
 abbrev pub fault_text : InputFault → List ℕ
 fault_text (Text fault) = codes "line " ++ (decimal fault.line ++ (codes ": " ++ kind_name fault.kind))
+fault_text (Database fault) = codes "database: " ++ database_fault_name fault
 fault_text (Layout words) = codes "too large: " ++ (decimal words ++ codes " words")
-
--- a text, and a newline
-abbrev pub line_of : List ℕ → List ℕ
-line_of text = text ++ 10 ∷ []
 
 -- what is told of a status: a line, or nothing where all was done
 abbrev pub text_of : Status → List ℕ

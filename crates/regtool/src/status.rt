@@ -1,10 +1,13 @@
 //! What a call of the program ends with.
 
 ghost use Rattle.std.specs.Prelude.{◌≡◌, IfOk};
-ghost use Rattle.regtool.specs.Status.{fault_text, kind_name, line_of, number_of, text_of};
+ghost use Rattle.regtool.specs.Lines.{line_of};
+ghost use Rattle.regtool.specs.Status.{database_fault_name, fault_text, kind_name, number_of, text_of};
 
+use crate::line::line_of;
 use db_text::{TextFault, TextKind};
 use reg_base::{Bytes, OutOfMemory};
+use rule_tables::DbFault;
 use std::alloc::Global;
 
 /// Why the input isn't accepted.
@@ -12,6 +15,8 @@ use std::alloc::Global;
 pub enum InputFault {
     /// The rule text stands for no database.
     Text(TextFault),
+    /// The bytes are no database file.
+    Database(DbFault),
     /// The last collection of the database would stand at this place, in words of 4 bytes: above
     /// 65,535.
     Layout { words: u64 },
@@ -77,6 +82,10 @@ fn fault_line(alloc: Global, fault: &InputFault) -> Result<Bytes, OutOfMemory>
             let kind = kind_name(fault.kind);
             format!(in alloc; "line {}: {kind}", fault.line)?
         }
+        InputFault::Database(fault) => {
+            let name = database_fault_name(fault);
+            format!(in alloc; "database: {name}")?
+        }
         InputFault::Layout { words } => format!(in alloc; "too large: {words} words")?,
     };
     line_of(alloc, text.as_bytes())
@@ -107,12 +116,19 @@ fn kind_name(kind: TextKind) -> &'static str
     }
 }
 
-/// The text and a newline.
-fn line_of(alloc: Global, text: &[u8]) -> Result<Bytes, OutOfMemory>
-    ensures { IfOk result (λ line. line ≡ line_of text.now) }
+/// The name of the fault, without its values.
+fn database_fault_name(fault: &DbFault) -> &'static str
+    ensures { result.now ≡ database_fault_name fault.now }
 {
-    let mut line = Bytes::new(alloc);
-    line.append(text)?;
-    line.push(b'\n')?;
-    Ok(line)
+    match fault {
+        DbFault::Short(_) => "Short",
+        DbFault::BadMagic(_) => "BadMagic",
+        DbFault::BadVersion(_) => "BadVersion",
+        DbFault::BadAlpha2(_, _) => "BadAlpha2",
+        DbFault::CountryTwice(_) => "CountryTwice",
+        DbFault::BadCollection(_) => "BadCollection",
+        DbFault::BadRegion(_, _) => "BadRegion",
+        DbFault::BadRule(_, _) => "BadRule",
+        DbFault::BadWmm(_, _) => "BadWmm",
+    }
 }

@@ -3,6 +3,7 @@
 
 ghost use Rattle.std.specs.Prelude.{◌<◌};
 
+mod databases;
 mod rule_texts;
 mod text_faults;
 
@@ -10,9 +11,12 @@ use super::regtool;
 use crate::status::{InputFault, Status, status_text};
 use db_text::{TextFault, TextKind};
 use reg_base::{Bytes, FailingSink, FailingSource, MemSink, MemSource, Source, StdSink, StdSource};
+use rule_tables::{Alpha2, DbFault};
 use std::alloc::Global;
 use std::process::Abort;
 use std::test::Fail;
+
+const US_CODE: Alpha2 = Alpha2 { a: b'U', b: b'S' };
 
 /// More than a file of these tests has.
 const ROOM: usize = 4096;
@@ -186,7 +190,7 @@ fn a_file_has_at_most_65535_words_before_its_last_collection(rt: HostRuntime) ->
 }
 
 #[test]
-fn a_text_has_at_most_16777216_bytes(rt: HostRuntime) -> Result<(), Fail> {
+fn an_input_has_at_most_16777216_bytes(rt: HostRuntime) -> Result<(), Fail> {
     for (count, wanted) in [(16_777_216, Status::Done), (16_777_217, Status::TooLong)] {
         let lines = vec![in rt.alloc(); b'\n'; count]?;
         let mut input = StdSource::new(lines.as_slice());
@@ -198,7 +202,7 @@ fn a_text_has_at_most_16777216_bytes(rt: HostRuntime) -> Result<(), Fail> {
 
 #[test]
 fn other_words_are_usage(rt: HostRuntime) -> Result<(), Fail> {
-    for line in ["", "decompile", "compile x", "compile compile", "COMPILE"] {
+    for line in ["", "compile x", "compile check", "check check", "CHECK", "checks"] {
         let words = words(rt.alloc(), line)?;
         let mut input = MemSource::new(bytes(rt.alloc(), US)?, 16);
         let mut out = MemSink::new(rt.alloc(), ROOM)?;
@@ -279,6 +283,11 @@ fn each_status_has_its_text(rt: HostRuntime) -> Result<(), Fail> {
         (Status::Done, 0, ""),
         (Status::Usage, 1, "usage\n"),
         (refused(7, TextKind::BadFlag), 2, "line 7: BadFlag\n"),
+        (
+            Status::Refused(InputFault::Database(DbFault::BadRule(US_CODE, 3))),
+            2,
+            "database: BadRule\n",
+        ),
         (
             Status::Refused(InputFault::Layout { words: 65_536 }),
             2,

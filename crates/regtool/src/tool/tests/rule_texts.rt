@@ -46,7 +46,7 @@ const DE: &str =
 
 /// The file of DE: its entry with its collection at word 17, four zero bytes, the WMM rule at word
 /// 4, the rule at word 12, and the collection.
-const DE_FILE: [u8; 76] = [
+pub(super) const DE_FILE: [u8; 76] = [
     0x52, 0x47, 0x44, 0x42, 0x00, 0x00, 0x00, 0x14, //
     0x44, 0x45, 0x00, 0x11, //
     0x00, 0x00, 0x00, 0x00, //
