@@ -1,28 +1,21 @@
--- Where nothing keeps a command from its output, its answer is the whole output or want of memory.
-use Rattle.std.proofs.Common.{◌≡◌, ℕ, ◌<◌, List, [], ◌∷◌, length, get_or, Option, Some, inl, inr, refl, sym, ◌∙◌, ap, subst, arith}
+-- What follows from the answer, where the input is told: the whole output, or the fault, or the length.
+use Rattle.std.proofs.Common.{◌≡◌, ℕ, ◌<◌, ◌≤◌, List, [], length, get_or, Option, Some, inl, inr, refl, sym, ◌∙◌, ap, subst, arith}
 use Rattle.std.specs.Prelude.{IfSome, ◌⊎◌}
 use Rattle.std.specs.declared.alloc.Global.{Global}
 use Rattle.std.specs.declared.string.String.{String}
-use Rattle.rule_tables.specs.FileFormat.{ReadsAs}
 use Rattle.rule_tables.specs.declared.domain.Domain.{Domain}
-use Rattle.db_reader.proofs.OneDatabase.{ReadsAs-unique}
-use Rattle.db_reader.proofs.OneFault.{ReadsAs-no_fault}
-use Rattle.db_text.specs.TextOf.{TextOf}
-use Rattle.db_text.proofs.OneAnswer.{TextOf-unique, TextOf-no_fault}
-use Rattle.db_writer.specs.LaidOut.{IsWithin, EndsIn}
-use Rattle.db_writer.proofs.Unique.{EndsIn-unique}
-use Rattle.regtool.specs.Answer.{Call, IsAnswer, IsComplete, IsConverted, MayConvert, WritesOutput}
-use Rattle.regtool.specs.Conversions.{Names, StandsFor, IsAccepted, IsOutputOf, IsInputFault, name_of}
+use Rattle.regtool.specs.Answer.{Call, HasInput, IsAnswer, IsComplete, IsConverted, IsRead, MayConvert, TellsFault, TellsLength, WritesOutput, input_limit}
+use Rattle.regtool.specs.Conversions.{Names, IsAccepted, IsOutputOf, IsInputFault, Gives, name_of}
 use Rattle.regtool.specs.declared.conversion.Conversion.{Conversion}
 use Rattle.regtool.specs.declared.conversion.Conversion.TheVariants.{Compile, Check}
 use Rattle.regtool.specs.declared.status.InputFault.{InputFault}
-use Rattle.regtool.specs.declared.status.InputFault.TheVariants.{Text, Database, Layout}
 use Rattle.regtool.specs.declared.status.Status.{Status}
 use Rattle.regtool.specs.declared.status.Status.TheVariants.{Done, Usage, Refused, ReadFault, WriteFault, NoMemory, TooLong}
+use Rattle.regtool.proofs.OneFault.{StandsFor-unique, IsAccepted-no_fault, IsInputFault-unique}
 
 -- what holds of the bytes that a source told holds of these
-of_told : (left : Option (List ℕ)) (given : List ℕ) (P : List ℕ → Type 0) → left ≡ Some given → IfSome left P → P given
-of_told left given P told h = subst (λ o. IfSome o P) told h
+of_told : (left : Option (List ℕ)) (input : List ℕ) (P : List ℕ → Type 0) → left ≡ Some input → IfSome left P → P input
+of_told left input P told h = subst (λ o. IfSome o P) told h
 
 -- ---- words
 
@@ -37,65 +30,100 @@ Names-unique : (words : List (String Global)) (c d : Conversion) → Names words
 Names-unique words c d one other =
     name_of-injective c d (ap (λ names. length (get_or names 0 [])) (sym one ∙ other))
 
--- ---- inputs
+-- The command that the words name is the one that was done.
+done_for : (call : Call) (c d : Conversion) (status : Status) → Names call.words c → Names call.words d → IsConverted d call.input call.output status → IsConverted c call.input call.output status
+done_for call c d status one other done =
+    subst (λ e. IsConverted e call.input call.output status) (Names-unique call.words d c other one) done
 
--- an input stands for one database
-StandsFor-unique : (c : Conversion) (input : List ℕ) (ds es : List Domain) → StandsFor c input ds → StandsFor c input es → ds ≡ es
-StandsFor-unique Compile text ds es one other = TextOf-unique text ds es one other
-StandsFor-unique Check bytes ds es one other = ReadsAs-unique bytes ds es one other
+-- What the program answers to the form of a command is what that command ends with.
+pub converted_from : (call : Call) (c : Conversion) (status : Status) → Names call.words c → IsAnswer call status → IsConverted c call.input call.output status
+converted_from call c Done named (d, other, done) = done_for call c d Done named other done
+converted_from call c Usage named (no_form, input, output) = absurd (no_form (c, named))
+converted_from call c (Refused fault) named (d, other, done) = done_for call c d (Refused fault) named other done
+converted_from call c ReadFault named (d, other, done) = done_for call c d ReadFault named other done
+converted_from call c WriteFault named (d, other, done) = done_for call c d WriteFault named other done
+converted_from call c NoMemory named (d, other, done) = done_for call c d NoMemory named other done
+converted_from call c TooLong named (d, other, done) = done_for call c d TooLong named other done
 
--- a database whose file is within the reach of pointers isn't too large
-not_too_large : (ds : List Domain) (words : ℕ) → IsWithin ds → EndsIn ds words → 65535 < words → ⊥
-not_too_large ds words (place, ends, small) ends' above =
-    let same = EndsIn-unique ds place words ends ends' in
-    omega (arith, same, small, above)
+-- ---- the whole output
 
--- an input that is accepted isn't refused
-no_refusal : (c : Conversion) (input : List ℕ) (ds : List Domain) (fault : InputFault) → IsAccepted c input ds → IsInputFault c input fault → ⊥
-no_refusal Compile text ds (Text f) accepted h = TextOf-no_fault text ds f accepted.stands_for h
-no_refusal Compile text ds (Layout words) accepted (es, stands, ends, above) =
-    let there : EndsIn ds words = subst (λ fs. EndsIn fs words) (TextOf-unique text es ds stands accepted.stands_for) ends in
-    not_too_large ds words accepted.has_output there above
-no_refusal Compile text ds (Database f) accepted h = h
-no_refusal Check bytes ds (Database f) accepted h = ReadsAs-no_fault bytes ds f accepted.stands_for h
-no_refusal Check bytes ds (Text f) accepted h = h
-no_refusal Check bytes ds (Layout words) accepted h = h
+-- the output that was given for the input is that of the database as which it is accepted
+same_output : (c : Conversion) (input : List ℕ) (ds : List Domain) (bytes : List ℕ) → IsAccepted c input ds → Gives c input bytes → IsOutputOf c ds bytes
+same_output c input ds bytes accepted (es, other, output) =
+    subst (λ fs. IsOutputOf c fs bytes) (StandsFor-unique c input es ds other.stands_for accepted.stands_for) output
 
--- ---- answers
-
--- the answer of a command is complete
-converted : (call : Call) (c : Conversion) (status : Status) (given : List ℕ) (ds : List Domain)
-    → IsConverted c call.input call.output status → MayConvert call c given ds → (status ≡ NoMemory) ⊎ ((status ≡ Done) × WritesOutput call c ds)
-converted call c Done given ds read may =
-    let same : given ≡ read.given = of_told _ given _ may.told read.all in
-    let (bytes, (es, accepted, output), appends) = read.holds in
-    let one : es ≡ ds = StandsFor-unique c read.given es ds accepted.stands_for (subst (λ xs. StandsFor c xs ds) same may.accepted.stands_for) in
-    inr (refl, record { at_end = read.at_end; output = (bytes, subst (λ fs. IsOutputOf c fs bytes) one output, appends) })
-converted call c Usage given ds none may = absurd none
-converted call c (Refused fault) given ds (read, output) may =
-    let same : given ≡ read.given = of_told _ given _ may.told read.all in
-    absurd (no_refusal c read.given ds fault (subst (λ xs. IsAccepted c xs ds) same may.accepted) read.holds)
-converted call c ReadFault given ds (fault, output) may = absurd (may.reads fault)
-converted call c WriteFault given ds (fault, read) may = absurd (may.writes fault)
-converted call c NoMemory given ds output may = inl refl
-converted call c TooLong given ds (longer, output) may =
-    let above = of_told _ given _ may.told longer in
+completed : (call : Call) (c : Conversion) (status : Status) (input : List ℕ) (ds : List Domain)
+    → IsConverted c call.input call.output status → MayConvert call c input ds → (status ≡ NoMemory) ⊎ ((status ≡ Done) × WritesOutput call c ds)
+completed call c Done input ds read may =
+    let same : input ≡ read.given = of_told _ input _ may.has_input.told read.all in
+    let accepted : IsAccepted c read.given ds = subst (λ xs. IsAccepted c xs ds) same may.accepted in
+    let (bytes, gives, appends) = read.holds in
+    inr (refl, record { at_end = read.at_end; output = (bytes, same_output c read.given ds bytes accepted gives, appends) })
+completed call c Usage input ds none may = absurd none
+completed call c (Refused fault) input ds (read, output) may =
+    let same : input ≡ read.given = of_told _ input _ may.has_input.told read.all in
+    absurd (IsAccepted-no_fault c read.given ds fault (subst (λ xs. IsAccepted c xs ds) same may.accepted) read.holds)
+completed call c ReadFault input ds (fault, output) may = absurd (may.has_input.reads fault)
+completed call c WriteFault input ds (fault, read) may = absurd (may.writes fault)
+completed call c NoMemory input ds output may = inl refl
+completed call c TooLong input ds (longer, output) may =
+    let above = of_told _ input _ may.has_input.told longer in
     absurd (omega (arith, above, may.within))
 
--- the command that the words name is the one that was done
-of_command : (call : Call) (c d : Conversion) (status : Status) (given : List ℕ) (ds : List Domain)
-    → Names call.words d → IsConverted d call.input call.output status → MayConvert call c given ds
-    → (status ≡ NoMemory) ⊎ ((status ≡ Done) × WritesOutput call c ds)
-of_command call c d status given ds named done may =
-    let same : d ≡ c = Names-unique call.words d c named may.form in
-    converted call c status given ds (subst (λ e. IsConverted e call.input call.output status) same done) may
-
--- the answer is complete
 pub complete_from : (call : Call) (status : Status) → IsAnswer call status → IsComplete call status
-complete_from call Done (d, named, done) c given ds may = of_command call c d Done given ds named done may
-complete_from call Usage (no_form, input, output) c given ds may = absurd (no_form (c, may.form))
-complete_from call (Refused fault) (d, named, done) c given ds may = of_command call c d (Refused fault) given ds named done may
-complete_from call ReadFault (d, named, done) c given ds may = of_command call c d ReadFault given ds named done may
-complete_from call WriteFault (d, named, done) c given ds may = of_command call c d WriteFault given ds named done may
-complete_from call NoMemory (d, named, done) c given ds may = of_command call c d NoMemory given ds named done may
-complete_from call TooLong (d, named, done) c given ds may = of_command call c d TooLong given ds named done may
+complete_from call status answer c input ds may =
+    completed call c status input ds (converted_from call c status may.has_input.form answer) may
+
+-- ---- the fault
+
+-- an input for which an output was given has no fault
+no_output : (c : Conversion) (input : List ℕ) (bytes : List ℕ) (fault : InputFault) → Gives c input bytes → IsInputFault c input fault → ⊥
+no_output c input bytes fault (ds, accepted, output) h = IsAccepted-no_fault c input ds fault accepted h
+
+told_fault : (call : Call) (c : Conversion) (status : Status) (input : List ℕ) (fault : InputFault)
+    → IsConverted c call.input call.output status → HasInput call c input → length input ≤ input_limit → IsInputFault c input fault
+    → (status ≡ NoMemory) ⊎ (status ≡ Refused fault)
+told_fault call c Done input fault read has within h =
+    let same : input ≡ read.given = of_told _ input _ has.told read.all in
+    let (bytes, gives, appends) = read.holds in
+    absurd (no_output c read.given bytes fault gives (subst (λ xs. IsInputFault c xs fault) same h))
+told_fault call c Usage input fault none has within h = absurd none
+told_fault call c (Refused other) input fault (read, output) has within h =
+    let same : input ≡ read.given = of_told _ input _ has.told read.all in
+    inr (ap Refused (IsInputFault-unique c read.given other fault read.holds (subst (λ xs. IsInputFault c xs fault) same h)))
+told_fault call c ReadFault input fault (failed, output) has within h = absurd (has.reads failed)
+told_fault call c WriteFault input fault (failed, read) has within h =
+    let same : input ≡ read.given = of_told _ input _ has.told read.all in
+    let (bytes, gives, appends) = read.holds in
+    absurd (no_output c read.given bytes fault gives (subst (λ xs. IsInputFault c xs fault) same h))
+told_fault call c NoMemory input fault output has within h = inl refl
+told_fault call c TooLong input fault (longer, output) has within h =
+    let above = of_told _ input _ has.told longer in
+    absurd (omega (arith, above, within))
+
+pub fault_from : (call : Call) (status : Status) → IsAnswer call status → TellsFault call status
+fault_from call status answer c input fault has within h =
+    told_fault call c status input fault (converted_from call c status has.form answer) has within h
+
+-- ---- the length
+
+-- what was read is no longer than the limit
+not_longer : (call : Call) (input : List ℕ) (P : List ℕ → Type 0) → call.input.before ≡ Some input → input_limit < length input → IsRead call.input P → ⊥
+not_longer call input P told above read =
+    let same : input ≡ read.given = of_told _ input _ told read.all in
+    let long : input_limit < length read.given = subst (λ xs. input_limit < length xs) same above in
+    omega (arith, long, read.within)
+
+told_length : (call : Call) (c : Conversion) (status : Status) (input : List ℕ)
+    → IsConverted c call.input call.output status → HasInput call c input → input_limit < length input → (status ≡ NoMemory) ⊎ (status ≡ TooLong)
+told_length call c Done input read has above = absurd (not_longer call input _ has.told above read)
+told_length call c Usage input none has above = absurd none
+told_length call c (Refused fault) input (read, output) has above = absurd (not_longer call input _ has.told above read)
+told_length call c ReadFault input (failed, output) has above = absurd (has.reads failed)
+told_length call c WriteFault input (failed, read) has above = absurd (not_longer call input _ has.told above read)
+told_length call c NoMemory input output has above = inl refl
+told_length call c TooLong input longer has above = inr refl
+
+pub length_from : (call : Call) (status : Status) → IsAnswer call status → TellsLength call status
+length_from call status answer c input has above =
+    told_length call c status input (converted_from call c status has.form answer) has above

@@ -1,5 +1,5 @@
 -- What the top call answers, and why.
-use Rattle.std.specs.Prelude.{◌≡◌, ℕ, ◌≤◌, ◌⊎◌, List, length, Option, Some}
+use Rattle.std.specs.Prelude.{◌≡◌, ℕ, ◌<◌, ◌≤◌, ◌⊎◌, List, length, Option, Some}
 use Rattle.std.specs.Io.KnownBytes.{Appends, IsAtEnd}
 use Rattle.std.specs.declared.alloc.Global.{Global}
 use Rattle.std.specs.declared.string.String.{String}
@@ -63,15 +63,19 @@ abbrev pub IsAnswer : Call → Status → Type 0
 IsAnswer call Usage = (IsForm call.words → ⊥) × IsUntouched call.input × IsUntouched call.output
 IsAnswer call status = (command : Conversion) × Names call.words command × IsConverted command call.input call.output status
 
--- Nothing keeps the command from its output: no fault came, and the input was told to be at most as long as the limit and
--- to be accepted as the database.
-pub record MayConvert (call : Call) (command : Conversion) (given : List ℕ) (ds : List Domain) : Type 0 where
+-- The command read an input that was told: the words are its form, the input was told to be this, and no read failed.
+pub record HasInput (call : Call) (command : Conversion) (input : List ℕ) : Type 0 where
   pub form : Names call.words command
+  pub told : call.input.before ≡ Some input
   pub reads : HasFault call.input → ⊥
+
+-- Nothing keeps the command from its output: the input is at most as long as the limit and accepted as the database, and no
+-- write failed.
+pub record MayConvert (call : Call) (command : Conversion) (input : List ℕ) (ds : List Domain) : Type 0 where
+  pub has_input : HasInput call command input
+  pub within : length input ≤ input_limit
+  pub accepted : IsAccepted command input ds
   pub writes : HasFault call.output → ⊥
-  pub told : call.input.before ≡ Some given
-  pub within : length given ≤ input_limit
-  pub accepted : IsAccepted command given ds
 
 -- the input was read to its end, and the output of the database was written
 pub record WritesOutput (call : Call) (command : Conversion) (ds : List Domain) : Type 0 where
@@ -80,5 +84,15 @@ pub record WritesOutput (call : Call) (command : Conversion) (ds : List Domain) 
 
 -- Where nothing keeps a command from its output, the status is `Done` and all of it is written, or memory was wanting.
 abbrev pub IsComplete : Call → Status → Type 0
-IsComplete call status = (command : Conversion) (given : List ℕ) (ds : List Domain)
-    → MayConvert call command given ds → (status ≡ NoMemory) ⊎ ((status ≡ Done) × WritesOutput call command ds)
+IsComplete call status = (command : Conversion) (input : List ℕ) (ds : List Domain)
+    → MayConvert call command input ds → (status ≡ NoMemory) ⊎ ((status ≡ Done) × WritesOutput call command ds)
+
+-- Where the input has a fault, it is refused by it, or memory was wanting.
+abbrev pub TellsFault : Call → Status → Type 0
+TellsFault call status = (command : Conversion) (input : List ℕ) (fault : InputFault)
+    → HasInput call command input → length input ≤ input_limit → IsInputFault command input fault → (status ≡ NoMemory) ⊎ (status ≡ Refused fault)
+
+-- Where the input is longer than the limit, that is told, or memory was wanting.
+abbrev pub TellsLength : Call → Status → Type 0
+TellsLength call status = (command : Conversion) (input : List ℕ)
+    → HasInput call command input → input_limit < length input → (status ≡ NoMemory) ⊎ (status ≡ TooLong)

@@ -1,7 +1,7 @@
 //! The program as a function of its words, its input and its output.
 
 ghost use Rattle.std.specs.Prelude.{◌≤◌};
-ghost use Rattle.regtool.specs.Answer.{IsAnswer, IsComplete, IsConverted};
+ghost use Rattle.regtool.specs.Answer.{IsAnswer, IsComplete, IsConverted, TellsFault, TellsLength};
 
 #[cfg(test)]
 mod tests;
@@ -33,6 +33,18 @@ pub fn regtool<S: Source, K: Sink>(
     }) result }
     // That an input which is accepted gives its output.
     ensures complete { IsComplete (record {
+      words = words.now;
+      input = record { before = S.left input.old; after = S.left input.new; faults_before = S.count input.old; faults_after = S.count input.new };
+      output = record { before = K.held out.old; after = K.held out.new; faults_before = K.count out.old; faults_after = K.count out.new };
+    }) result }
+    // That an input with a fault is refused by that fault.
+    ensures fault { TellsFault (record {
+      words = words.now;
+      input = record { before = S.left input.old; after = S.left input.new; faults_before = S.count input.old; faults_after = S.count input.new };
+      output = record { before = K.held out.old; after = K.held out.new; faults_before = K.count out.old; faults_after = K.count out.new };
+    }) result }
+    // That an input above the limit is too long.
+    ensures length { TellsLength (record {
       words = words.now;
       input = record { before = S.left input.old; after = S.left input.new; faults_before = S.count input.old; faults_after = S.count input.new };
       output = record { before = K.held out.old; after = K.held out.new; faults_before = K.count out.old; faults_after = K.count out.new };

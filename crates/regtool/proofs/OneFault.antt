@@ -1,0 +1,52 @@
+-- An input is accepted as one database, or has one fault.
+use Rattle.std.proofs.Common.{◌≡◌, ℕ, ◌<◌, List, ap, subst, arith}
+use Rattle.rule_tables.specs.declared.domain.Domain.{Domain}
+use Rattle.db_reader.proofs.OneDatabase.{ReadsAs-unique}
+use Rattle.db_reader.proofs.OneFault.{IsDbFault-unique, ReadsAs-no_fault}
+use Rattle.db_text.proofs.OneAnswer.{TextOf-unique, TextOf-no_fault, IsTextFault-unique}
+use Rattle.db_writer.specs.LaidOut.{IsWithin, EndsIn}
+use Rattle.db_writer.proofs.Unique.{EndsIn-unique}
+use Rattle.regtool.specs.Conversions.{StandsFor, IsAccepted, IsInputFault}
+use Rattle.regtool.specs.declared.conversion.Conversion.{Conversion}
+use Rattle.regtool.specs.declared.conversion.Conversion.TheVariants.{Compile, Check}
+use Rattle.regtool.specs.declared.status.InputFault.{InputFault}
+use Rattle.regtool.specs.declared.status.InputFault.TheVariants.{Text, Database, Layout}
+
+-- an input stands for one database
+pub StandsFor-unique : (c : Conversion) (input : List ℕ) (ds es : List Domain) → StandsFor c input ds → StandsFor c input es → ds ≡ es
+StandsFor-unique Compile text ds es one other = TextOf-unique text ds es one other
+StandsFor-unique Check bytes ds es one other = ReadsAs-unique bytes ds es one other
+
+-- a database whose file is within the reach of pointers isn't too large
+not_too_large : (ds : List Domain) (words : ℕ) → IsWithin ds → EndsIn ds words → 65535 < words → ⊥
+not_too_large ds words (place, ends, small) ends' above =
+    let same = EndsIn-unique ds place words ends ends' in
+    omega (arith, same, small, above)
+
+-- an input that is accepted has no fault
+pub IsAccepted-no_fault : (c : Conversion) (input : List ℕ) (ds : List Domain) (fault : InputFault) → IsAccepted c input ds → IsInputFault c input fault → ⊥
+IsAccepted-no_fault Compile text ds (Text f) accepted h = TextOf-no_fault text ds f accepted.stands_for h
+IsAccepted-no_fault Compile text ds (Layout words) accepted (es, stands, ends, above) =
+    let there : EndsIn ds words = subst (λ fs. EndsIn fs words) (TextOf-unique text es ds stands accepted.stands_for) ends in
+    not_too_large ds words accepted.has_output there above
+IsAccepted-no_fault Compile text ds (Database f) accepted h = h
+IsAccepted-no_fault Check bytes ds (Database f) accepted h = ReadsAs-no_fault bytes ds f accepted.stands_for h
+IsAccepted-no_fault Check bytes ds (Text f) accepted h = h
+IsAccepted-no_fault Check bytes ds (Layout words) accepted h = h
+
+-- an input has one fault
+pub IsInputFault-unique : (c : Conversion) (input : List ℕ) (f g : InputFault) → IsInputFault c input f → IsInputFault c input g → f ≡ g
+IsInputFault-unique Compile text (Text f) (Text g) one other = ap Text (IsTextFault-unique text f g one other)
+IsInputFault-unique Compile text (Text f) (Layout words) one (ds, stands, ends, above) = absurd (TextOf-no_fault text ds f stands one)
+IsInputFault-unique Compile text (Text f) (Database g) one none = absurd none
+IsInputFault-unique Compile text (Layout words) (Text g) (ds, stands, ends, above) other = absurd (TextOf-no_fault text ds g stands other)
+IsInputFault-unique Compile text (Layout words) (Layout more) (ds, stands, ends, above) (es, stands', ends', above') =
+    let there : EndsIn es words = subst (λ fs. EndsIn fs words) (TextOf-unique text ds es stands stands') ends in
+    ap Layout (EndsIn-unique es words more there ends')
+IsInputFault-unique Compile text (Layout words) (Database g) one none = absurd none
+IsInputFault-unique Compile text (Database f) g none other = absurd none
+IsInputFault-unique Check bytes (Database f) (Database g) one other = ap Database (IsDbFault-unique bytes f g one other)
+IsInputFault-unique Check bytes (Database f) (Text g) one none = absurd none
+IsInputFault-unique Check bytes (Database f) (Layout words) one none = absurd none
+IsInputFault-unique Check bytes (Text f) g none other = absurd none
+IsInputFault-unique Check bytes (Layout words) g none other = absurd none
