@@ -1,4 +1,5 @@
 pub mod Appended
 pub mod Causes
+pub mod Files
 pub mod Memory
 pub mod Streams

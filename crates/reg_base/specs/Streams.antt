@@ -1,5 +1,6 @@
--- What contracts see of a source over a reader and of a sink over a writer.
+-- What contracts see of a source over a reader, of a sink over a writer and of the files of the system.
 use Rattle.std.specs.Prelude.{ℕ}
+use Rattle.reg_base.specs.declared.disk.DiskFiles.{DiskFiles}
 use Rattle.reg_base.specs.declared.streams.StdSink.{StdSink}
 use Rattle.reg_base.specs.declared.streams.StdSource.{StdSource}
 
@@ -16,3 +17,7 @@ writer_of s = s.writer
 
 abbrev pub failed_writes : {W : Type 0} → StdSink W → ℕ
 failed_writes s = s.faults
+
+-- how often a file of the system could not be read
+abbrev pub failed_files : {R : Type 0} → DiskFiles R → ℕ
+failed_files s = s.faults

@@ -16,14 +16,14 @@ use std::marker::Model;
 
 /// Which calls fail, and what came of those that were made.
 #[derive(Debug, Drop)]
-struct CallPlan {
-    failing: Vec<u64>,
-    calls: u64,
-    faults: u64,
+pub(crate) struct CallPlan {
+    pub(crate) failing: Vec<u64>,
+    pub(crate) calls: u64,
+    pub(crate) faults: u64,
 }
 
 impl CallPlan {
-    fn new(alloc: Global, calls: &[u64]) -> Result<CallPlan, OutOfMemory>
+    pub(crate) fn new(alloc: Global, calls: &[u64]) -> Result<CallPlan, OutOfMemory>
         ensures failing { IfOk result (λ p. p.failing.items ≡ calls.now) }
         ensures calls { IfOk result (λ p. p.calls ≡ 0) }
         ensures faults { IfOk result (λ p. p.faults ≡ 0) }
@@ -36,7 +36,7 @@ impl CallPlan {
     }
 
     /// Counts a call, and answers whether it is to fail.
-    fn fails_next(&mut self) -> bool
+    pub(crate) fn fails_next(&mut self) -> bool
         ensures fails { IsTrue result ↔ Contains self.old.failing.items (counted self.old.calls) }
         ensures failing { self.new.failing ≡ self.old.failing }
         ensures calls { self.new.calls ≡ counted self.old.calls }
@@ -47,7 +47,7 @@ impl CallPlan {
     }
 
     /// Counts a failed call.
-    fn count_fault(&mut self)
+    pub(crate) fn count_fault(&mut self)
         ensures failing { self.new.failing ≡ self.old.failing }
         ensures calls { self.new.calls ≡ self.old.calls }
         ensures faults { self.new.faults ≡ counted self.old.faults }

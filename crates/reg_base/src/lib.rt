@@ -1,18 +1,26 @@
-//! Sources and sinks of bytes, over memory and over the standard streams.
+//! Sources, sinks and files of bytes: over memory, over the standard streams and on the disk.
 #![tactic(auto)]
 
 mod bytes;
+mod disk;
 mod errors;
 mod failing;
+mod files;
 mod memory;
+mod memory_files;
+mod read_all;
 mod sink;
 mod source;
 mod streams;
 
 pub use bytes::Bytes;
-pub use errors::{Failed, OutOfMemory};
+pub use disk::DiskFiles;
+pub use errors::{Failed, FileFault, OutOfMemory};
 pub use failing::{FailingSink, FailingSource};
+pub use files::Files;
 pub use memory::{MemSink, MemSource};
+pub use memory_files::{FailingFiles, MemFiles};
+pub use read_all::read_to_end;
 pub use sink::Sink;
 pub use source::Source;
 pub use streams::{StdSink, StdSource};
