@@ -14,11 +14,7 @@ const BUFFER: usize = 16_384;
 
 /// All bytes that the source has left, at most `most` of them. What was read before an error is
 /// lost.
-pub fn read_to_end<S: Source>(
-    alloc: Global,
-    input: &mut S,
-    most: usize,
-) -> Result<Bytes, FileFault>
+pub fn read_to_end<S: Source>(alloc: Global, input: &mut S, most: usize) -> Result<Bytes, FileFault>
     ensures all { IfOk result (AreAll (S.left input.old)) }
     ensures at_end { OnOk result (IsAtEnd (S.left input.new)) }
     ensures within { IfOk result (λ bytes. length bytes ≤ most) }

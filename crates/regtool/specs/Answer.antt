@@ -5,9 +5,9 @@ use Rattle.std.specs.declared.alloc.Global.{Global}
 use Rattle.std.specs.declared.string.String.{String}
 use Rattle.reg_base.specs.Appended.{AppendsFront}
 use Rattle.reg_base.specs.Causes.{Rose}
+use Rattle.reg_base.specs.Files.{AreAll, IsLonger}
 use Rattle.rule_tables.specs.declared.domain.Domain.{Domain}
 use Rattle.regtool.specs.Conversions.{Names, IsForm, IsAccepted, IsOutputOf, Gives, IsInputFault}
-use Rattle.regtool.specs.Input.{AreAll, IsLonger}
 use Rattle.regtool.specs.declared.conversion.Conversion.{Conversion}
 use Rattle.regtool.specs.declared.status.InputFault.{InputFault}
 use Rattle.regtool.specs.declared.status.Status.{Status}

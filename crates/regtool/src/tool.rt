@@ -7,9 +7,8 @@ ghost use Rattle.regtool.specs.Answer.{IsAnswer, IsComplete, IsConverted, TellsF
 mod tests;
 
 use crate::conversion::{Conversion, Refusal};
-use crate::input::{ReadStop, read_to_end};
 use crate::status::Status;
-use reg_base::{Sink, Source};
+use reg_base::{FileFault, Sink, Source, read_to_end};
 use std::alloc::Global;
 
 /// How many bytes a rule text or a database may have.
@@ -93,9 +92,9 @@ fn convert<S: Source, K: Sink>(
 {
     let given = match read_to_end(alloc, input, INPUT_LIMIT) {
         Ok(given) => given,
-        Err(ReadStop::Failed) => return Status::ReadFault,
-        Err(ReadStop::TooLong) => return Status::TooLong,
-        Err(ReadStop::OutOfMemory) => return Status::NoMemory,
+        Err(FileFault::Failed) => return Status::ReadFault,
+        Err(FileFault::TooLong) => return Status::TooLong,
+        Err(FileFault::OutOfMemory) => return Status::NoMemory,
     };
     let bytes = match command.output_for(alloc, given.as_slice()) {
         Ok(bytes) => bytes,

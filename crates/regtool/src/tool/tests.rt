@@ -4,6 +4,7 @@
 ghost use Rattle.std.specs.Prelude.{◌<◌};
 
 mod databases;
+mod files;
 mod rule_texts;
 mod text_faults;
 
@@ -202,7 +203,14 @@ fn an_input_has_at_most_16777216_bytes(rt: HostRuntime) -> Result<(), Fail> {
 
 #[test]
 fn other_words_are_usage(rt: HostRuntime) -> Result<(), Fail> {
-    for line in ["", "compile x", "compile check", "check check", "CHECK", "checks"] {
+    for line in [
+        "",
+        "compile x",
+        "compile check",
+        "check check",
+        "CHECK",
+        "checks",
+    ] {
         let words = words(rt.alloc(), line)?;
         let mut input = MemSource::new(bytes(rt.alloc(), US)?, 16);
         let mut out = MemSink::new(rt.alloc(), ROOM)?;
