@@ -25,6 +25,7 @@ pub mod Lists
 pub mod Milliwatts
 pub mod NamedBlocks
 pub mod Names
+pub mod Noted
 pub mod OneAnswer
 pub mod Openings
 pub mod PowerTexts
@@ -33,6 +34,7 @@ pub mod Ready
 pub mod RuleLaws
 pub mod RuleTaken
 pub mod RuleTexts
+pub mod SameWmm
 pub mod Solid
 pub mod Stops
 pub mod Taken

@@ -3,28 +3,12 @@
 ghost use Rattle.std.specs.Prelude.{◌≡◌, ◌-◌, ◌^◌, ◌≤◌, ◌++◌, All, OnOk, codes, decimal};
 ghost use Rattle.freq_range.specs.Valid.{IsValidEntry, IsValidWmm};
 ghost use Rattle.db_text.specs.Printed.{ended, item_line, text_of_lines, wmm_lines, wmm_lines_from, wmm_name};
-ghost use Rattle.db_text.specs.Spelling.{item_name};
 
 use crate::form::Item;
 use crate::number_printer::put_number;
+use crate::wmm_reader::item_name;
 use freq_range::{Wmm, WmmEntry};
 use reg_base::{Bytes, OutOfMemory};
-
-/// The name of an item.
-fn item_name(item: Item) -> &'static [u8]
-    ensures { result.now ≡ item_name item }
-{
-    match item {
-        Item::VoC => b"vo_c",
-        Item::ViC => b"vi_c",
-        Item::BeC => b"be_c",
-        Item::BkC => b"bk_c",
-        Item::VoAp => b"vo_ap",
-        Item::ViAp => b"vi_ap",
-        Item::BeAp => b"be_ap",
-        Item::BkAp => b"bk_ap",
-    }
-}
 
 /// Appends a contention window: 2 to this power, less 1.
 fn put_window(out: &mut Bytes, exponent: u8) -> Result<(), OutOfMemory>
