@@ -12,6 +12,7 @@ pub mod Digits
 pub mod EmptyLines
 pub mod EmptyTaken
 pub mod Ended
+pub mod FewDomains
 pub mod FormLaws
 pub mod Gathering
 pub mod HeaderTaken
@@ -28,7 +29,9 @@ pub mod Names
 pub mod Noted
 pub mod OneAnswer
 pub mod Openings
+pub mod PlainLines
 pub mod PowerTexts
+pub mod PrintedDigits
 pub mod ReadSoFar
 pub mod Ready
 pub mod RuleLaws
@@ -40,6 +43,7 @@ pub mod Stops
 pub mod Taken
 pub mod Total
 pub mod Unique
+pub mod Uses
 pub mod ValidRules
 pub mod Values
 pub mod WholeLine
