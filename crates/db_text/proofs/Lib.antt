@@ -32,6 +32,8 @@ pub mod Openings
 pub mod PlainLines
 pub mod PowerTexts
 pub mod PrintedDigits
+pub mod PrintedRuleLines
+pub mod PrintedWords
 pub mod ReadSoFar
 pub mod Ready
 pub mod RuleLaws

@@ -3,9 +3,9 @@ use Rattle.std.proofs.Common.{◌≡◌, ◌≢◌, ℕ, ◌+◌, ◌<◌, ◌�
 use Rattle.std.specs.Prelude.{nat_lt, filter}
 use Rattle.std.specs.List.{list_all, position_or_len}
 use Rattle.std.specs.Str.{IsAscii}
-use Rattle.std.proofs.lemmas.Bool.{and_from, and_parts, not-true}
+use Rattle.std.proofs.lemmas.Bool.{and_parts, cases_lt, not-true}
 use Rattle.std.proofs.lemmas.Bool.Decides.{nat_tests}
-use Rattle.std.proofs.lemmas.List.{length-append, take_all}
+use Rattle.std.proofs.lemmas.List.{get_or_past, length-append, take_all}
 use Rattle.std.proofs.lemmas.List.Elements.{All-head, All-tail, All-weaker, filter-append}
 use Rattle.std.proofs.lemmas.List.Folds.{list_all-append}
 use Rattle.std.proofs.lemmas.List.Sums.{AllPass-from_list_all, position_or_len_is}
@@ -83,4 +83,7 @@ pub utf8_plain : (line squeezed : List ℕ) (n : ℕ) → Prints line squeezed n
 utf8_plain line squeezed n prints = IsUtf8-from_ascii line (ascii line prints.plain)
   where
     ascii : (line : List ℕ) → list_all is_plain line ≡ true → IsAscii line
-    ascii line is = ?
+    ascii line is i = elim (cases_lt i (length line)) [
+      | inl less ↦ (plain_parts (get_or line i 0) (AllPass-from_list_all is_plain line is i 0 less)).0
+      | inr past ↦ rw (get_or_past line i 0 past) (omega arith)
+    ]
