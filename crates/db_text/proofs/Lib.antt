@@ -15,6 +15,7 @@ pub mod Ended
 pub mod FewDomains
 pub mod FormLaws
 pub mod Gathering
+pub mod GoodLines
 pub mod HeaderTaken
 pub mod Items
 pub mod Judged
@@ -32,6 +33,7 @@ pub mod Openings
 pub mod PlainLines
 pub mod PowerTexts
 pub mod PrintedDigits
+pub mod PrintedLines
 pub mod PrintedRuleLines
 pub mod PrintedWords
 pub mod ReadSoFar
