@@ -35,6 +35,7 @@ pub mod PowerTexts
 pub mod PrintedDigits
 pub mod PrintedLines
 pub mod PrintedRuleLines
+pub mod PrintedWmm
 pub mod PrintedWords
 pub mod ReadSoFar
 pub mod Ready

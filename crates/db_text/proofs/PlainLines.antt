@@ -35,27 +35,33 @@ joined a b p q m n k one two le = record {
   short = let len = length-append a b in let s = one.short in let t = two.short in omega (arith, len, s, t);
 }
 
--- digits
-plain_digit : (b : ℕ) → 48 ≤ b → b ≤ 57 → is_plain b ≡ true
-plain_digit b low high = grind (arith, nat_tests)
+-- digits and letters
+abbrev pub IsSolid : ℕ → Type 0
+IsSolid b = (48 ≤ b) × (b ≤ 122)
 
-solid_digit : (b : ℕ) → 48 ≤ b → b ≤ 57 → is_blank b ≡ false
-solid_digit b low high = grind (arith, nat_tests)
+plain_byte : (b : ℕ) → 48 ≤ b → b ≤ 122 → is_plain b ≡ true
+plain_byte b low high = grind (arith, nat_tests)
 
-plain_digits : (ds : List ℕ) → All IsDigit ds → list_all is_plain ds ≡ true
-plain_digits [] each = refl
-plain_digits (d ∷ ds) each =
-    let here = All-head IsDigit d ds each in
-    both (is_plain d) (list_all is_plain ds) (plain_digit d here.0 here.1) (plain_digits ds (All-tail IsDigit d ds each))
+solid_byte : (b : ℕ) → 48 ≤ b → b ≤ 122 → is_blank b ≡ false
+solid_byte b low high = grind (arith, nat_tests)
 
-solid_digits : (ds : List ℕ) → All IsDigit ds → solid ds ≡ ds
-solid_digits [] each = refl
-solid_digits (d ∷ ds) each =
-    let here = All-head IsDigit d ds each in
-    rw (solid_digit d here.0 here.1) (ap (λ xs. d ∷ xs) (solid_digits ds (All-tail IsDigit d ds each)))
+plain_bytes : (bs : List ℕ) → All IsSolid bs → list_all is_plain bs ≡ true
+plain_bytes [] each = refl
+plain_bytes (b ∷ bs) each =
+    let here = All-head IsSolid b bs each in
+    both (is_plain b) (list_all is_plain bs) (plain_byte b here.0 here.1) (plain_bytes bs (All-tail IsSolid b bs each))
+
+solid_bytes : (bs : List ℕ) → All IsSolid bs → solid bs ≡ bs
+solid_bytes [] each = refl
+solid_bytes (b ∷ bs) each =
+    let here = All-head IsSolid b bs each in
+    rw (solid_byte b here.0 here.1) (ap (λ xs. b ∷ xs) (solid_bytes bs (All-tail IsSolid b bs each)))
+
+pub prints_solid : (bs : List ℕ) (n : ℕ) → All IsSolid bs → length bs ≤ n → Prints bs bs n
+prints_solid bs n each short = record { plain = plain_bytes bs each; solid = solid_bytes bs each; short = short }
 
 pub prints_digits : (ds : List ℕ) (n : ℕ) → All IsDigit ds → length ds ≤ n → Prints ds ds n
-prints_digits ds n each short = record { plain = plain_digits ds each; solid = solid_digits ds each; short = short }
+prints_digits ds n each short = prints_solid ds n (All-weaker IsDigit IsSolid (λ d digit. (digit.0, omega (arith, digit))) ds each) short
 
 -- ---- whole lines
 

@@ -1,5 +1,5 @@
 -- A printed line is accepted below the lines above it.
-use Rattle.std.proofs.Common.{◌≡◌, ◌≢◌, ℕ, ◌+◌, ◌-◌, ◌^◌, ◌<◌, ◌≤◌, ◌==◌, false, List, [], ◌∷◌, ◌++◌, length, All, Contains, reverse, arith, refl, sym, subst, ap, ◌∙◌, append_assoc, lit<}
+use Rattle.std.proofs.Common.{◌≡◌, ◌≢◌, ℕ, ◌+◌, ◌-◌, ◌^◌, ◌<◌, ◌≤◌, ◌==◌, false, List, [], ◌∷◌, ◌++◌, length, All, Contains, reverse, arith, refl, sym, subst, ap, ◌∙◌, append_assoc, inl, inr, lit<}
 use Rattle.std.specs.Prelude.{codes}
 use Rattle.std.specs.Fmt.{decimal}
 use Rattle.std.specs.List.{slice_split}
@@ -21,7 +21,7 @@ use Rattle.db_text.specs.Forms.{Form, IsForm}
 use Rattle.db_text.specs.Printed.{country_line, item_line, region_part, text_of_lines, wmm_name}
 use Rattle.db_text.specs.Spelling.{AreCodes, IsDigit, IsHeader, IsItemLine, IsName, IsNumber, IsWmmHeader, ItemText, codes_text, item_name, item_text, region_name, value_of_digits}
 use Rattle.db_text.proofs.GoodLines.{IsRight}
-use Rattle.db_text.proofs.PlainLines.{Prints, bare_plain, is_plain, joined, one_line, prints_digits, utf8_plain}
+use Rattle.db_text.proofs.PlainLines.{IsSolid, Prints, bare_plain, is_plain, joined, one_line, prints_digits, prints_solid, utf8_plain}
 use Rattle.db_text.proofs.PrintedDigits.{decimal_digits, decimal_number, decimal_short, decimal_value}
 use Rattle.db_text.proofs.PrintedRuleLines.{wmm_name-is, wmm_name-prints}
 use Rattle.db_text.proofs.WholeLine.{readable_good}
@@ -110,7 +110,7 @@ prints_item_name BkAp = record { plain = refl; solid = refl; short = omega arith
 
 window_fits : (e : ℕ) → e ≤ 15 → (2 ^ e - 1 < 2 ^ 64) × (2 ^ e - 1 + 1 ≡ 2 ^ e)
 window_fits e low =
-    let most = pow-le-pow_right 2 e 15 (lit< tt) low in
+    let most = pow-le-pow_right {n = 2} (lit< tt) {i = e} {j = 15} low in
     let least = one-le-pow e 2 (lit< tt) in
     (omega (arith, most), omega (arith, least))
 
@@ -174,7 +174,11 @@ prints_region Etsi = record { plain = refl; solid = refl; short = omega arith }
 prints_region Jp = record { plain = refl; solid = refl; short = omega arith }
 
 prints_code : (c : Alpha2) → IsCode c → Prints (c.a ∷ c.b ∷ []) (c.a ∷ c.b ∷ []) 2
-prints_code c is = ?
+prints_code c is = prints_solid (c.a ∷ c.b ∷ []) 2 (All-cons IsSolid c.a (c.b ∷ []) (both is).0 (All-cons IsSolid c.b [] (both is).1 (All-nil IsSolid))) (omega arith)
+  where
+    both : IsCode c → IsSolid c.a × IsSolid c.b
+    both (inl capitals) = ((omega (arith, capitals), omega (arith, capitals)), (omega (arith, capitals), omega (arith, capitals)))
+    both (inr zeros) = ((omega (arith, zeros), omega (arith, zeros)), (omega (arith, zeros), omega (arith, zeros)))
 
 pub country_prints : (d : Domain) → IsCode d.alpha2 → Prints (country_line d) (codes "country" ++ codes_text (d.alpha2 ∷ []) ++ codes ":" ++ region_name d.region) 20
 unfolding country_line
