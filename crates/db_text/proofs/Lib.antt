@@ -32,9 +32,11 @@ pub mod OneAnswer
 pub mod Openings
 pub mod PlainLines
 pub mod PowerTexts
+pub mod PrintedCountries
 pub mod PrintedDigits
 pub mod PrintedLines
 pub mod PrintedRuleLines
+pub mod PrintedText
 pub mod PrintedWmm
 pub mod PrintedWords
 pub mod ReadSoFar
