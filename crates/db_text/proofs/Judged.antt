@@ -28,6 +28,7 @@ use Rattle.db_text.proofs.EmptyLines.{empty_good}
 use Rattle.freq_range.proofs.Deciding.{Told, told_any, told_lt}
 use Rattle.db_text.proofs.FormLaws.{same_header}
 use Rattle.db_text.proofs.LineForms.{IsForm-unique, IsSpelledRule-unique, IsWmmHeader-unique, decide_entry, decide_header, decide_opening, decide_rule, decide_wmm_name}
+use Rattle.db_text.proofs.GoodLines.{few_rules, good_header, good_item, good_name, good_rule}
 use Rattle.db_text.proofs.HeaderTaken.{contradicted_stop, header_stop, wmm_bad}
 use Rattle.db_text.proofs.LineLaws.{country_first, good, item_first, item_outside, item_wrong, wmm_first, wmm_header_wrong}
 use Rattle.db_text.proofs.RuleTaken.{item_bad, item_nothing, rule_allows, rule_nothing, rule_stop}
@@ -46,16 +47,7 @@ IsJudged above line = ((form : Form) × IsGoodLine above line form) ⊎ ((kind :
 judge_header : (above : List Form) (line : List ℕ) (cs : List Alpha2) (region : Region) → Opens line OfCountry → IsHeader line cs region → IsJudgedBare above line
 judge_header above line cs region opens is = elim (told_contradicted above cs region) [
   | inl against ↦ inr (RegionDiffers, contradicted_stop above line cs region (Kind RegionDiffers) is against)
-  | inr agrees ↦ inl (
-    Country cs region,
-    is,
-    good above line (country_first above line 18 opens
-        (λ less wrong. wrong.1 cs (region_name region) is)
-        (λ less wrong. wrong.1 cs region is)
-        (λ less wrong.
-        let same = same_header wrong.0 cs wrong.1 region (IsForm-unique line (Country wrong.0 wrong.1) (Country cs region) wrong.2 is) in
-        agrees (subst (λ r. IsContradicted above cs r) same.1 (subst (λ xs. IsContradicted above xs wrong.1) same.0 wrong.3)))),
-  )
+  | inr agrees ↦ inl (Country cs region, is, good_header above line cs region is agrees)
 ]
 
 judge_country : (above : List Form) (line : List ℕ) → Opens line OfCountry → IsJudgedBare above line
@@ -65,13 +57,7 @@ judge_country above line opens = elim (decide_header line) [
 ]
 
 judge_name : (above : List Form) (line name : List ℕ) (o : Option Wmm) → wmm_of name above ≡ o → Opens line OfWmm → IsWmmHeader line name → IsJudgedBare above line
-judge_name above line name None at opens is = inl (
-  WmmHeader name,
-  is,
-  good above line (wmm_first above line 18 opens
-      (λ less wrong. wmm_header_wrong above line opens wrong name is)
-      (λ less wrong. wrong.2 (subst (λ n. wmm_of n above ≡ None) (IsWmmHeader-unique line name wrong.0 is wrong.1) at))),
-)
+judge_name above line name None at opens is = inl (WmmHeader name, is, good_name above line name is at)
 judge_name above line name (Some w) at opens is = inr (
   WmmTwice,
   record {
@@ -97,16 +83,7 @@ judge_entry above line item e opens inside is = elim (told_has_item above item) 
       first = item_first above line 13 item opens (λ less wrong. item_outside above line item opens wrong inside) (λ less wrong. omega (arith, less));
     },
   )
-  | inr lacks ↦ inl (
-    ItemLine item e,
-    is,
-    good above line (item_first above line 18 item opens
-        (λ less wrong. item_outside above line item opens wrong inside)
-        (λ less wrong. elim (item_wrong above line item opens wrong) [
-          | inl none ↦ none e is
-          | inr has ↦ lacks has
-        ])),
-  )
+  | inr lacks ↦ inl (ItemLine item e, is, good_item above line item e inside is lacks)
 ]
 
 judge_item : (above : List Form) (line : List ℕ) (item : Item) → Opens line (OfItem item) → IsJudgedBare above line
@@ -144,10 +121,7 @@ told_makes_too_many : (above : List Form) (line : List ℕ) (rule : Rule) (name 
 told_makes_too_many above line rule name cs is block =
     elim (told_any (HasTooMany (RuleLine rule name ∷ above)) (told_too_many (RuleLine rule name ∷ above)) cs) [
       | inl found ↦ inl (rule, name, is, cs, block, found.0, found.1, found.2)
-      | inr none ↦ inr (λ m.
-          let codes = same_codes_block m.3 cs (sym m.4 ∙ block) in
-          let form = IsForm-unique line (RuleLine m.0 m.1) (RuleLine rule name) m.2 is in
-          none m.5 (subst (λ xs. Contains xs m.5) codes m.6) (subst (λ f. HasTooMany (f ∷ above) m.5) form m.7))
+      | inr none ↦ inr (few_rules above line rule name cs block is none)
     ]
 
 judge_spelled : (above : List Form) (line : List ℕ) (rule : Rule) (name : Option (List ℕ)) (cs : List Alpha2) → block_of above ≡ OfCountries cs → IsRuleLine line rule name
@@ -168,7 +142,7 @@ judge_spelled above line rule name cs block is = elim (told_no_wmm above line ru
         first = rule_allows above line cs rule name 15 block is (λ less wrong. there wrong) (λ less wrong. omega (arith, less));
       },
     )
-    | inr few ↦ inl (RuleLine rule name, is, good above line (rule_allows above line cs rule name 18 block is (λ less wrong. there wrong) (λ less wrong. few wrong)))
+    | inr few ↦ inl (RuleLine rule name, is, good_rule above line rule name cs block is there few)
   ]
 ]
 

@@ -23,12 +23,12 @@ use Rattle.db_text.proofs.CountryLaws.{each_after, keys_after, named_country, qu
 use Rattle.db_text.proofs.FormLaws.{Names-cases, Names-later, among_true, block_named_by, cases_among, first_header-more, same_code-apart}
 
 -- the rules of a code whose block is is_open, with one more line
-open_rules : (code : Alpha2) (rule : Rule) (name : Option (List ℕ)) (above : List Form) → is_of_code code (block_of above) ≡ true
+pub open_rules : (code : Alpha2) (rule : Rule) (name : Option (List ℕ)) (above : List Form) → is_of_code code (block_of above) ≡ true
     → rules_of code (RuleLine rule name ∷ above) ≡ with_named above rule name ∷ rules_of code above
 open_rules code rule name above is = rw is refl
 
 -- the line of a rule names no code
-rule_names : (code : Alpha2) (rule : Rule) (name : Option (List ℕ)) (above : List Form) (region : Region) → Names (RuleLine rule name ∷ above) code region → Names above code region
+pub rule_names : (code : Alpha2) (rule : Rule) (name : Option (List ℕ)) (above : List Form) (region : Region) → Names (RuleLine rule name ∷ above) code region → Names above code region
 rule_names code rule name above region named = elim (Names-cases (RuleLine rule name) above code region named) [
   | inl top ↦ absurd (let e = top.1 in cc)
   | inr later ↦ later

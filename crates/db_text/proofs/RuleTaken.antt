@@ -135,7 +135,7 @@ one_name (Some n) other has = elim (Contains-cases n [] other has) [
 ]
 
 -- a name among the words of another reading of the line is the rule's
-named_once : (line : List ℕ) (rule other : Rule) (name : Option (List ℕ)) (t : RuleText) (n : List ℕ) → IsRuleLine line rule name → IsSpelledRule line t other → Contains (names_in t.words) n → name ≡ Some n
+pub named_once : (line : List ℕ) (rule other : Rule) (name : Option (List ℕ)) (t : RuleText) (n : List ℕ) → IsRuleLine line rule name → IsSpelledRule line t other → Contains (names_in t.words) n → name ≡ Some n
 named_once line rule other name t n is spelled has =
     let same = IsSpelledRule-unique line t is.text other rule spelled is.is in
     one_name name n (subst (λ ns. Contains ns n) is.named (subst (λ ws. Contains (names_in ws) n) same.0 has))

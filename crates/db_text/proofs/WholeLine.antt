@@ -5,8 +5,8 @@ use Rattle.db_text.specs.declared.fault.LineStop.TheVariants.{Kind, OutOfMemory}
 use Rattle.db_text.specs.declared.fault.TextKind.{TextKind}
 use Rattle.db_text.specs.declared.fault.TextKind.TheVariants.{LineTooLong, NotUtf8, BadLine, NoBlock, BadCountry, BadRegion, RegionDiffers, BadBand, BadPower, BadFlag, FlagNotInVersion, NoWmm, BadWmm, WmmTwice, TooManyRules, WmmShort, NoRules}
 use Rattle.db_text.specs.declared.parser.Parser.{Parser}
-use Rattle.db_text.specs.Faults.{Applies, IsLineFault, IsWrong, place_of_kind}
-use Rattle.db_text.specs.Forms.{Form}
+use Rattle.db_text.specs.Faults.{Applies, IsGoodLine, IsLineFault, IsWrong, place_of_kind}
+use Rattle.db_text.specs.Forms.{Form, IsForm}
 use Rattle.db_text.specs.Lines.{IsReadableLine, bare}
 use Rattle.db_text.specs.Reading.{IsUnreadable}
 use Rattle.db_text.specs.State.{IsBareStop, IsLineStop, TakesBare, TakesLine}
@@ -22,10 +22,14 @@ bare_applies above line LineTooLong wrong = absurd wrong
 bare_applies above line NotUtf8 wrong = absurd wrong
 bare_applies above line kind wrong = wrong
 
+pub readable_good : (above : List Form) (line : List ℕ) (form : Form) → IsReadableLine line → IsForm (bare line) form → ((kind : TextKind) → IsWrong above (bare line) kind → ⊥)
+    → IsGoodLine above line form
+readable_good above line form readable is good = record { is = is; good = λ kind applies. good kind (applies_bare above line kind readable applies) }
+
 pub whole_line : (above : List Form) (line : List ℕ) (parser : Parser) → IsReadableLine line → TakesBare above (bare line) parser → TakesLine above line parser
 whole_line above line parser readable takes = record {
   form = takes.form;
-  good = record { is = takes.is; good = λ kind applies. takes.good kind (applies_bare above line kind readable applies) };
+  good = readable_good above line takes.form readable takes.is takes.good;
   stands = takes.stands;
 }
 

@@ -32,10 +32,10 @@ cases_name name other = elim (cases_Bool (same_name name other)) [
   | inr differ ↦ inr (λ same. let e = (bytes_eq-Decides name other).1 same in cc)
 ]
 
-is_of_name-apart : (name other : List ℕ) (block : Block) → block ≡ OfName name → other ≢ name → is_of_name other block ≡ false
+pub is_of_name-apart : (name other : List ℕ) (block : Block) → block ≡ OfName name → other ≢ name → is_of_name other block ≡ false
 is_of_name-apart name other block is apart = subst (λ b. is_of_name other b ≡ false) (sym is) (same_name-apart name other (λ e. apart (sym e)))
 
-is_of_name-here : (name : List ℕ) (block : Block) → block ≡ OfName name → is_of_name name block ≡ true
+pub is_of_name-here : (name : List ℕ) (block : Block) → block ≡ OfName name → is_of_name name block ≡ true
 is_of_name-here name block is = subst (λ b. is_of_name name b ≡ true) (sym is) (same_name-itself name)
 
 -- ---- headers of WMM rules

@@ -84,7 +84,7 @@ fn numbers_of(bytes: &[u8]) -> Option<ItemNumbers>
 }
 
 /// The name of an item.
-fn item_name(item: Item) -> &'static [u8]
+pub fn item_name(item: Item) -> &'static [u8]
     ensures { result.now ≡ item_name item }
 {
     match item {

@@ -1,0 +1,32 @@
+-- How the line of a rule is printed.
+use Rattle.std.specs.Prelude.{ℕ, Bool, List, [], ◌++◌, Option, Some, None, codes, if◌then◌else◌}
+use Rattle.freq_range.specs.declared.flags.RuleFlags.{RuleFlags}
+use Rattle.freq_range.specs.declared.rule.Rule.{Rule}
+use Rattle.db_text.specs.declared.form.Flag.{Flag}
+use Rattle.db_text.specs.declared.form.Flag.TheVariants.{NoOfdm, NoOutdoor, Dfs, NoIr, AutoBw}
+use Rattle.db_text.specs.PrintedNumbers.{dbm_text, mhz_text}
+use Rattle.db_text.specs.Spelling.{flag_name}
+
+-- a flag that is set, behind a comma and a blank
+abbrev pub flag_part : Bool → Flag → List ℕ
+flag_part set flag = if set then codes ", " ++ flag_name flag else []
+
+-- the flags in their order
+unfoldable pub flags_part : RuleFlags → List ℕ
+flags_part flags =
+    flag_part flags.no_ofdm NoOfdm ++ flag_part flags.no_outdoor NoOutdoor ++ flag_part flags.dfs Dfs ++ flag_part flags.auto_bw AutoBw ++ flag_part flags.no_ir NoIr
+
+-- `(START - END @ WIDTH), (POWER), FLAGS`
+unfoldable pub rule_part : Rule → List ℕ
+rule_part rule =
+    codes "(" ++ mhz_text rule.start_khz ++ codes " - " ++ mhz_text rule.end_khz ++ codes " @ " ++ mhz_text rule.max_bw_khz ++ codes "), (" ++ dbm_text rule.eirp_mbm ++ codes ")"
+    ++ flags_part rule.flags
+
+-- the name of a WMM rule, behind a comma and a blank
+abbrev pub name_part : Option (List ℕ) → List ℕ
+name_part None = []
+name_part (Some name) = codes ", wmmrule=" ++ name
+
+-- a rule, and the name of its WMM rule if it has one
+abbrev pub printed_rule : Rule → Option (List ℕ) → List ℕ
+printed_rule rule name = rule_part rule ++ name_part name
