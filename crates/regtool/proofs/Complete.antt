@@ -7,7 +7,7 @@ use Rattle.rule_tables.specs.declared.domain.Domain.{Domain}
 use Rattle.regtool.specs.Answer.{Call, HasInput, IsAnswer, IsComplete, IsConverted, IsRead, MayConvert, TellsFault, TellsLength, WritesOutput, input_limit}
 use Rattle.regtool.specs.Conversions.{Names, IsAccepted, IsOutputOf, IsInputFault, Gives, name_of}
 use Rattle.regtool.specs.declared.conversion.Conversion.{Conversion}
-use Rattle.regtool.specs.declared.conversion.Conversion.TheVariants.{Compile, Check}
+use Rattle.regtool.specs.declared.conversion.Conversion.TheVariants.{Compile, Decompile, Check}
 use Rattle.regtool.specs.declared.status.InputFault.{InputFault}
 use Rattle.regtool.specs.declared.status.Status.{Status}
 use Rattle.regtool.specs.declared.status.Status.TheVariants.{Done, Usage, Refused, ReadFault, WriteFault, NoMemory, TooLong}
@@ -22,8 +22,13 @@ of_told left input P told h = subst (λ o. IfSome o P) told h
 -- commands of one name are the same: their names have different lengths
 name_of-injective : (c d : Conversion) → length (name_of c) ≡ length (name_of d) → c ≡ d
 name_of-injective Compile Compile same = refl
+name_of-injective Compile Decompile same = absurd (omega (arith, same))
 name_of-injective Compile Check same = absurd (omega (arith, same))
+name_of-injective Decompile Compile same = absurd (omega (arith, same))
+name_of-injective Decompile Decompile same = refl
+name_of-injective Decompile Check same = absurd (omega (arith, same))
 name_of-injective Check Compile same = absurd (omega (arith, same))
+name_of-injective Check Decompile same = absurd (omega (arith, same))
 name_of-injective Check Check same = refl
 
 Names-unique : (words : List (String Global)) (c d : Conversion) → Names words c → Names words d → c ≡ d

@@ -4,17 +4,20 @@ use Rattle.rule_tables.specs.declared.domain.Domain.{Domain}
 use Rattle.db_reader.proofs.OneDatabase.{ReadsAs-unique}
 use Rattle.db_reader.proofs.OneFault.{IsDbFault-unique, ReadsAs-no_fault}
 use Rattle.db_text.proofs.OneAnswer.{TextOf-unique, TextOf-no_fault, IsTextFault-unique}
+use Rattle.db_text.specs.Printed.{IsFirstTime}
 use Rattle.db_writer.specs.LaidOut.{IsWithin, EndsIn}
 use Rattle.db_writer.proofs.Unique.{EndsIn-unique}
+use Rattle.regtool.proofs.FirstTime.{IsFirstTime-unique, LackTimes-none}
 use Rattle.regtool.specs.Conversions.{StandsFor, IsAccepted, IsInputFault}
 use Rattle.regtool.specs.declared.conversion.Conversion.{Conversion}
-use Rattle.regtool.specs.declared.conversion.Conversion.TheVariants.{Compile, Check}
+use Rattle.regtool.specs.declared.conversion.Conversion.TheVariants.{Compile, Decompile, Check}
 use Rattle.regtool.specs.declared.status.InputFault.{InputFault}
-use Rattle.regtool.specs.declared.status.InputFault.TheVariants.{Text, Database, Layout}
+use Rattle.regtool.specs.declared.status.InputFault.TheVariants.{Text, Database, Layout, CacTime}
 
 -- an input stands for one database
 pub StandsFor-unique : (c : Conversion) (input : List ℕ) (ds es : List Domain) → StandsFor c input ds → StandsFor c input es → ds ≡ es
 StandsFor-unique Compile text ds es one other = TextOf-unique text ds es one other
+StandsFor-unique Decompile bytes ds es one other = ReadsAs-unique bytes ds es one other
 StandsFor-unique Check bytes ds es one other = ReadsAs-unique bytes ds es one other
 
 -- a database whose file is within the reach of pointers isn't too large
@@ -30,9 +33,17 @@ IsAccepted-no_fault Compile text ds (Layout words) accepted (es, stands, ends, a
     let there : EndsIn ds words = subst (λ fs. EndsIn fs words) (TextOf-unique text es ds stands accepted.stands_for) ends in
     not_too_large ds words accepted.has_output there above
 IsAccepted-no_fault Compile text ds (Database f) accepted h = h
+IsAccepted-no_fault Compile text ds (CacTime country k) accepted h = h
+IsAccepted-no_fault Decompile bytes ds (Database f) accepted h = ReadsAs-no_fault bytes ds f accepted.stands_for h
+IsAccepted-no_fault Decompile bytes ds (CacTime country k) accepted (es, reads, first) =
+    LackTimes-none ds country k accepted.has_output
+    (subst (λ fs. IsFirstTime fs country k) (ReadsAs-unique bytes es ds reads accepted.stands_for) first)
+IsAccepted-no_fault Decompile bytes ds (Text f) accepted h = h
+IsAccepted-no_fault Decompile bytes ds (Layout words) accepted h = h
 IsAccepted-no_fault Check bytes ds (Database f) accepted h = ReadsAs-no_fault bytes ds f accepted.stands_for h
 IsAccepted-no_fault Check bytes ds (Text f) accepted h = h
 IsAccepted-no_fault Check bytes ds (Layout words) accepted h = h
+IsAccepted-no_fault Check bytes ds (CacTime country k) accepted h = h
 
 -- an input has one fault
 pub IsInputFault-unique : (c : Conversion) (input : List ℕ) (f g : InputFault) → IsInputFault c input f → IsInputFault c input g → f ≡ g
@@ -44,9 +55,26 @@ IsInputFault-unique Compile text (Layout words) (Layout more) (ds, stands, ends,
     let there : EndsIn es words = subst (λ fs. EndsIn fs words) (TextOf-unique text ds es stands stands') ends in
     ap Layout (EndsIn-unique es words more there ends')
 IsInputFault-unique Compile text (Layout words) (Database g) one none = absurd none
+IsInputFault-unique Compile text (Text f) (CacTime country k) one none = absurd none
+IsInputFault-unique Compile text (Layout words) (CacTime country k) one none = absurd none
 IsInputFault-unique Compile text (Database f) g none other = absurd none
+IsInputFault-unique Compile text (CacTime country k) g none other = absurd none
+IsInputFault-unique Decompile bytes (Database f) (Database g) one other = ap Database (IsDbFault-unique bytes f g one other)
+IsInputFault-unique Decompile bytes (Database f) (CacTime country k) one (ds, reads, first) = absurd (ReadsAs-no_fault bytes ds f reads one)
+IsInputFault-unique Decompile bytes (Database f) (Text g) one none = absurd none
+IsInputFault-unique Decompile bytes (Database f) (Layout words) one none = absurd none
+IsInputFault-unique Decompile bytes (CacTime country k) (Database g) (ds, reads, first) other = absurd (ReadsAs-no_fault bytes ds g reads other)
+IsInputFault-unique Decompile bytes (CacTime country k) (CacTime code j) (ds, reads, first) (es, reads', first') =
+    let there : IsFirstTime es country k = subst (λ fs. IsFirstTime fs country k) (ReadsAs-unique bytes ds es reads reads') first in
+    IsFirstTime-unique es country code k j there first'
+IsInputFault-unique Decompile bytes (CacTime country k) (Text g) one none = absurd none
+IsInputFault-unique Decompile bytes (CacTime country k) (Layout words) one none = absurd none
+IsInputFault-unique Decompile bytes (Text f) g none other = absurd none
+IsInputFault-unique Decompile bytes (Layout words) g none other = absurd none
 IsInputFault-unique Check bytes (Database f) (Database g) one other = ap Database (IsDbFault-unique bytes f g one other)
 IsInputFault-unique Check bytes (Database f) (Text g) one none = absurd none
 IsInputFault-unique Check bytes (Database f) (Layout words) one none = absurd none
+IsInputFault-unique Check bytes (Database f) (CacTime country k) one none = absurd none
 IsInputFault-unique Check bytes (Text f) g none other = absurd none
+IsInputFault-unique Check bytes (CacTime country k) g none other = absurd none
 IsInputFault-unique Check bytes (Layout words) g none other = absurd none

@@ -6,20 +6,22 @@ use Rattle.std.specs.declared.string.String.{String}
 use Rattle.rule_tables.specs.FileFaults.{IsDbFault}
 use Rattle.rule_tables.specs.FileFormat.{ReadsAs}
 use Rattle.rule_tables.specs.declared.domain.Domain.{Domain}
+use Rattle.db_text.specs.Printed.{printed, LackTimes, IsFirstTime}
 use Rattle.db_text.specs.TextOf.{TextOf, IsTextFault}
 use Rattle.db_writer.specs.LaidOut.{LaidOut, EndsIn, IsWithin}
 use Rattle.regtool.specs.Lines.{line_of}
 use Rattle.regtool.specs.declared.conversion.Conversion.{Conversion}
-use Rattle.regtool.specs.declared.conversion.Conversion.TheVariants.{Compile, Check}
+use Rattle.regtool.specs.declared.conversion.Conversion.TheVariants.{Compile, Decompile, Check}
 use Rattle.regtool.specs.declared.conversion.Refusal.{Refusal}
 use Rattle.regtool.specs.declared.conversion.Refusal.TheVariants.{Fault, OutOfMemory}
 use Rattle.regtool.specs.declared.status.InputFault.{InputFault}
-use Rattle.regtool.specs.declared.status.InputFault.TheVariants.{Text, Database, Layout}
+use Rattle.regtool.specs.declared.status.InputFault.TheVariants.{Text, Database, Layout, CacTime}
 
 -- ---- words
 
 abbrev pub name_of : Conversion → List ℕ
 name_of Compile = codes "compile"
+name_of Decompile = codes "decompile"
 name_of Check = codes "check"
 
 -- the words are the form of the command: its name alone
@@ -37,6 +39,11 @@ pub record IsFile (bytes : List ℕ) (ds : List Domain) : Type 0 where
   pub laid_out : LaidOut ds bytes
   pub reads : ReadsAs bytes ds
 
+-- the bytes are the text of the database, and stand for it
+pub record IsText (text : List ℕ) (ds : List Domain) : Type 0 where
+  pub is_printed : text ≡ printed ds
+  pub stands_for : TextOf text ds
+
 -- how many rules the domains have in all
 abbrev pub rule_count : List Domain → ℕ
 rule_count ds = sum_by (λ d. length d.rules) ds
@@ -50,22 +57,27 @@ count_line ds = line_of (decimal (length ds) ++ (codes " countries, " ++ (decima
 -- the input stands for the database
 abbrev pub StandsFor : Conversion → List ℕ → List Domain → Type 0
 StandsFor Compile text ds = TextOf text ds
+StandsFor Decompile bytes ds = ReadsAs bytes ds
 StandsFor Check bytes ds = ReadsAs bytes ds
 
 -- the database has an output
 abbrev pub HasOutput : Conversion → List Domain → Type 0
 HasOutput Compile ds = IsWithin ds
+HasOutput Decompile ds = LackTimes ds
 HasOutput Check ds = ⊤
 
 -- the bytes are the output of the database
 abbrev pub IsOutputOf : Conversion → List Domain → List ℕ → Type 0
 IsOutputOf Compile ds bytes = IsFile bytes ds
+IsOutputOf Decompile ds bytes = IsText bytes ds
 IsOutputOf Check ds bytes = bytes ≡ count_line ds
 
 -- why the input stands for no database, or the database that it stands for has no output
 abbrev pub IsInputFault : Conversion → List ℕ → InputFault → Type 0
 IsInputFault Compile text (Text fault) = IsTextFault text fault
 IsInputFault Compile text (Layout words) = (ds : List Domain) × TextOf text ds × EndsIn ds words × (65535 < words)
+IsInputFault Decompile bytes (Database fault) = IsDbFault bytes fault
+IsInputFault Decompile bytes (CacTime country rule) = (ds : List Domain) × ReadsAs bytes ds × IsFirstTime ds country rule
 IsInputFault Check bytes (Database fault) = IsDbFault bytes fault
 IsInputFault command input fault = ⊥
 

@@ -1,12 +1,13 @@
 -- The number and the text of a status.
-use Rattle.std.specs.Prelude.{ℕ, List, [], ◌++◌, codes, decimal}
+use Rattle.std.specs.Prelude.{ℕ, List, [], ◌∷◌, ◌++◌, codes, decimal}
 use Rattle.db_text.specs.declared.fault.TextKind.{TextKind}
 use Rattle.db_text.specs.declared.fault.TextKind.TheVariants.{LineTooLong, NotUtf8, BadLine, NoBlock, BadCountry, BadRegion, RegionDiffers, BadBand, BadPower, BadFlag, FlagNotInVersion, NoWmm, BadWmm, WmmTwice, TooManyRules, WmmShort, NoRules}
+use Rattle.rule_tables.specs.declared.code.Alpha2.{Alpha2}
 use Rattle.rule_tables.specs.declared.file_fault.DbFault.{DbFault}
 use Rattle.rule_tables.specs.declared.file_fault.DbFault.TheVariants.{Short, BadMagic, BadVersion, BadAlpha2, CountryTwice, BadCollection, BadRegion as BadRegionByte, BadRule, BadWmm as BadWmmRecord}
 use Rattle.regtool.specs.Lines.{line_of}
 use Rattle.regtool.specs.declared.status.InputFault.{InputFault}
-use Rattle.regtool.specs.declared.status.InputFault.TheVariants.{Text, Database, Layout}
+use Rattle.regtool.specs.declared.status.InputFault.TheVariants.{Text, Database, Layout, CacTime}
 use Rattle.regtool.specs.declared.status.Status.{Status}
 use Rattle.regtool.specs.declared.status.Status.TheVariants.{Done, Usage, Refused, ReadFault, WriteFault, NoMemory, TooLong}
 
@@ -50,10 +51,15 @@ database_fault_name (BadRegionByte code region) = codes "BadRegion"
 database_fault_name (BadRule code rule) = codes "BadRule"
 database_fault_name (BadWmmRecord code rule) = codes "BadWmm"
 
+-- the rule of that number, counted from 0, has a check time
+abbrev pub check_time_text : Alpha2 → ℕ → List ℕ
+check_time_text country rule = codes "check time in " ++ (country.a ∷ country.b ∷ []) ++ (codes " rule " ++ decimal rule)
+
 abbrev pub fault_text : InputFault → List ℕ
 fault_text (Text fault) = codes "line " ++ (decimal fault.line ++ (codes ": " ++ kind_name fault.kind))
 fault_text (Database fault) = codes "database: " ++ database_fault_name fault
 fault_text (Layout words) = codes "too large: " ++ (decimal words ++ codes " words")
+fault_text (CacTime country rule) = check_time_text country rule
 
 -- what is told of a status: a line, or nothing where all was done
 abbrev pub text_of : Status → List ℕ

@@ -2,15 +2,16 @@
 
 ghost use Rattle.std.specs.Prelude.{◌≡◌, ◌↔◌, ◌*◌, ◌≤◌, [], ◌∷◌, All, IfErr, IfOk, IsTrue, MatchOption, length, map, string_bytes};
 ghost use Rattle.rule_tables.specs.Databases.{IsDb};
+ghost use Rattle.rule_tables.specs.FileFormat.{ReadsAs};
 ghost use Rattle.regtool.specs.Conversions.{Gives, IsForm, IsRefusal, Names, count_line, rule_count};
 
 use crate::line::line_of;
 use crate::status::InputFault;
 use db_reader::{ReadFault, read_db};
-use db_text::{ParseFault, parse};
+use db_text::{ParseFault, PrintFault, parse, print};
 use db_writer::{WriteFault, layout};
 use reg_base::{Bytes, OutOfMemory};
-use rule_tables::Domain;
+use rule_tables::{Db, Domain};
 use std::alloc::Global;
 
 /// A command that reads a whole input, and writes what it says in another form. Its only form is
@@ -19,6 +20,8 @@ use std::alloc::Global;
 pub enum Conversion {
     /// From a rule text to the file of its database.
     Compile,
+    /// From a database file to its text.
+    Decompile,
     /// From a database file to how many countries and rules it has.
     Check,
 }
@@ -49,6 +52,8 @@ impl Conversion {
     {
         if are_only(words, "compile") {
             Some(Conversion::Compile)
+        } else if are_only(words, "decompile") {
+            Some(Conversion::Decompile)
         } else if are_only(words, "check") {
             Some(Conversion::Check)
         } else {
@@ -64,6 +69,7 @@ impl Conversion {
     {
         match self {
             Conversion::Compile => compiled(alloc, input),
+            Conversion::Decompile => decompiled(alloc, input),
             Conversion::Check => counted(alloc, input),
         }
     }
@@ -86,16 +92,40 @@ fn compiled(alloc: Global, text: &[u8]) -> Result<Bytes, Refusal>
     }
 }
 
+/// The database that the bytes say.
+fn database_in(alloc: Global, bytes: &[u8]) -> Result<Db, Refusal>
+    ensures database { IfOk result (ReadsAs bytes.now) }
+    ensures decompile { IfErr result (IsRefusal Conversion.Decompile bytes.now) }
+    ensures check { IfErr result (IsRefusal Conversion.Check bytes.now) }
+{
+    match read_db(alloc, bytes) {
+        Ok(db) => Ok(db),
+        Err(ReadFault::Bad(fault)) => Err(Refusal::Fault(InputFault::Database(fault))),
+        Err(ReadFault::OutOfMemory) => Err(Refusal::OutOfMemory),
+    }
+}
+
+/// The text of the database that the bytes say.
+fn decompiled(alloc: Global, bytes: &[u8]) -> Result<Bytes, Refusal>
+    ensures output { IfOk result (Gives Conversion.Decompile bytes.now) }
+    ensures cause { IfErr result (IsRefusal Conversion.Decompile bytes.now) }
+{
+    let db = database_in(alloc, bytes)?;
+    match print(alloc, &db) {
+        Ok(text) => Ok(text),
+        Err(PrintFault::CacTime { country, rule }) => {
+            Err(Refusal::Fault(InputFault::CacTime { country, rule }))
+        }
+        Err(PrintFault::OutOfMemory) => Err(Refusal::OutOfMemory),
+    }
+}
+
 /// The line that tells how many countries and rules the database has that the bytes say.
 fn counted(alloc: Global, bytes: &[u8]) -> Result<Bytes, Refusal>
     ensures output { IfOk result (Gives Conversion.Check bytes.now) }
     ensures cause { IfErr result (IsRefusal Conversion.Check bytes.now) }
 {
-    let db = match read_db(alloc, bytes) {
-        Ok(db) => db,
-        Err(ReadFault::Bad(fault)) => return Err(Refusal::Fault(InputFault::Database(fault))),
-        Err(ReadFault::OutOfMemory) => return Err(Refusal::OutOfMemory),
-    };
+    let db = database_in(alloc, bytes)?;
     match count_line(alloc, db.as_slice()) {
         Ok(line) => Ok(line),
         Err(OutOfMemory) => Err(Refusal::OutOfMemory),

@@ -2,12 +2,12 @@
 
 ghost use Rattle.std.specs.Prelude.{◌≡◌, IfOk};
 ghost use Rattle.regtool.specs.Lines.{line_of};
-ghost use Rattle.regtool.specs.Status.{database_fault_name, fault_text, kind_name, number_of, text_of};
+ghost use Rattle.regtool.specs.Status.{check_time_text, database_fault_name, fault_text, kind_name, number_of, text_of};
 
 use crate::line::line_of;
 use db_text::{TextFault, TextKind};
 use reg_base::{Bytes, OutOfMemory};
-use rule_tables::DbFault;
+use rule_tables::{Alpha2, DbFault};
 use std::alloc::Global;
 
 /// Why the input isn't accepted.
@@ -20,6 +20,9 @@ pub enum InputFault {
     /// The last collection of the database would stand at this place, in words of 4 bytes: above
     /// 65,535.
     Layout { words: u64 },
+    /// The rule of that number of this country, counted from 0, is the first with a check time, which
+    /// a rule text can't say.
+    CacTime { country: Alpha2, rule: usize },
 }
 
 /// What a call of the program ends with.
@@ -87,8 +90,21 @@ fn fault_line(alloc: Global, fault: &InputFault) -> Result<Bytes, OutOfMemory>
             format!(in alloc; "database: {name}")?
         }
         InputFault::Layout { words } => format!(in alloc; "too large: {words} words")?,
+        InputFault::CacTime { country, rule } => return check_time_line(alloc, country, *rule),
     };
     line_of(alloc, text.as_bytes())
+}
+
+/// The line that tells the rule with a check time.
+fn check_time_line(alloc: Global, country: &Alpha2, rule: usize) -> Result<Bytes, OutOfMemory>
+    ensures { IfOk result (λ text. text ≡ line_of (check_time_text country.now rule)) }
+{
+    let number = format!(in alloc; " rule {rule}")?;
+    let mut text = Bytes::new(alloc);
+    text.append(b"check time in ")?;
+    text.append(&[country.a, country.b])?;
+    text.append(number.as_bytes())?;
+    line_of(alloc, text.as_slice())
 }
 
 /// The name of the kind.

@@ -297,6 +297,14 @@ fn each_status_has_its_text(rt: HostRuntime) -> Result<(), Fail> {
             "database: BadRule\n",
         ),
         (
+            Status::Refused(InputFault::CacTime {
+                country: US_CODE,
+                rule: 12,
+            }),
+            2,
+            "check time in US rule 12\n",
+        ),
+        (
             Status::Refused(InputFault::Layout { words: 65_536 }),
             2,
             "too large: 65536 words\n",

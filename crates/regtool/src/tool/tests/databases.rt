@@ -1,8 +1,8 @@
 //! What is told of database files, and what is wrong with others. The answers are worked out by
 //! hand from the format.
 
-use super::rule_texts::DE_FILE;
-use super::{ROOM, TWO_FILE, US_CODE as US, US_FILE, bytes, words};
+use super::rule_texts::{DE_FILE, GB_FILE};
+use super::{ROOM, TWO_FILE, US as US_TEXT, US_CODE as US, US_FILE, bytes, words};
 use crate::status::{InputFault, Status};
 use crate::tool::regtool;
 use reg_base::{MemSink, MemSource};
@@ -51,6 +51,20 @@ const REPEATED_FILE: [u8; 72] = [
     0x03, 0x01, 0x01, 0x00, 0x00, 0x05, 0x00, 0x00,
 ];
 
+/// The text of the file of DE, which has one WMM rule.
+const DE_TEXT: &[u8] = b"wmmrule w0:
+\tvo_c: cw_min=3, cw_max=7, aifsn=2, cot=2
+\tvi_c: cw_min=7, cw_max=15, aifsn=2, cot=4
+\tbe_c: cw_min=15, cw_max=1023, aifsn=3, cot=6
+\tbk_c: cw_min=15, cw_max=1023, aifsn=7, cot=6
+\tvo_ap: cw_min=3, cw_max=7, aifsn=1, cot=2
+\tvi_ap: cw_min=7, cw_max=15, aifsn=1, cot=4
+\tbe_ap: cw_min=15, cw_max=63, aifsn=3, cot=6
+\tbk_ap: cw_min=15, cw_max=1023, aifsn=7, cot=6
+country DE: DFS-ETSI
+\t(5150 - 5250 @ 80), (23.01), NO-OUTDOOR, AUTO-BW, wmmrule=w0
+";
+
 /// What the command answers for the file, and the sink that it wrote to.
 fn answer(alloc: Global, command: &str, file: &[u8]) -> Result<(Status, MemSink), Fail> {
     let words = words(alloc, command)?;
@@ -60,9 +74,18 @@ fn answer(alloc: Global, command: &str, file: &[u8]) -> Result<(Status, MemSink)
     Ok((status, out))
 }
 
-/// The file is refused by that fault.
-fn refused(fault: DbFault) -> Status {
-    Status::Refused(InputFault::Database(fault))
+/// The command refuses the file by that fault, and writes nothing.
+fn refuses(
+    rt: &impl Abort,
+    alloc: Global,
+    command: &str,
+    file: &[u8],
+    fault: InputFault,
+) -> Result<(), Fail> {
+    let (status, out) = answer(alloc, command, file)?;
+    assert_eq!(rt; status, Status::Refused(fault), "{command}");
+    assert!(rt; out.written().is_empty(), "{command}");
+    Ok(())
 }
 
 /// `check` answers that for the file: the line, or no byte with the fault.
@@ -73,18 +96,15 @@ fn tells(
     wanted: Result<&[u8], DbFault>,
     name: &str,
 ) -> Result<(), Fail> {
-    let (status, out) = answer(alloc, "check", file)?;
     match wanted {
         Ok(line) => {
+            let (status, out) = answer(alloc, "check", file)?;
             assert_eq!(rt; status, Status::Done, "{name}");
             assert_eq!(rt; out.written(), line, "{name}");
+            Ok(())
         }
-        Err(fault) => {
-            assert_eq!(rt; status, refused(fault), "{name}");
-            assert!(rt; out.written().is_empty(), "{name}");
-        }
+        Err(fault) => refuses(rt, alloc, "check", file, InputFault::Database(fault)),
     }
-    Ok(())
 }
 
 /// The file with another byte at that place.
@@ -135,9 +155,44 @@ fn the_first_fault_of_a_file_is_told(rt: HostRuntime) -> Result<(), Fail> {
         (&US_FILE[..7], DbFault::Short(7)),
     ];
     for (file, fault) in files {
-        tells(&rt, rt.alloc(), file, Err(fault), "a faulty file")?;
+        let fault = InputFault::Database(fault);
+        refuses(&rt, rt.alloc(), "check", file, fault)?;
+        refuses(&rt, rt.alloc(), "decompile", file, fault)?;
     }
     Ok(())
+}
+
+#[test]
+fn files_give_their_texts(rt: HostRuntime) -> Result<(), Fail> {
+    let files: [(&[u8], &[u8]); 6] = [
+        (&US_FILE, US_TEXT),
+        (&US_FILE[..38], US_TEXT),
+        (&US_FILE[..8], b""),
+        (
+            &TWO_FILE,
+            b"country AA: DFS-FCC\n\t(2400 - 2472 @ 40), (30)\ncountry BB: DFS-JP\n\t(2400 - 2472 @ 40), (30)\n",
+        ),
+        (
+            &GB_FILE,
+            b"country GB: DFS-ETSI\n\t(2400 - 2483.5 @ 40), (23.01)\n",
+        ),
+        (&DE_FILE, DE_TEXT),
+    ];
+    for (file, text) in files {
+        let (status, out) = answer(rt.alloc(), "decompile", file)?;
+        assert_eq!(rt; status, Status::Done, "for {text:?}");
+        assert_eq!(rt; out.written(), text, "for {text:?}");
+    }
+    Ok(())
+}
+
+#[test]
+fn a_check_time_has_no_text(rt: HostRuntime) -> Result<(), Fail> {
+    let fault = InputFault::CacTime {
+        country: US,
+        rule: 0,
+    };
+    refuses(&rt, rt.alloc(), "decompile", &CHECK_TIME_FILE, fault)
 }
 
 // The entry ends at byte 12, and the last pointer of the collection at byte 74.

@@ -4,7 +4,7 @@ use super::bytes;
 use reg_base::{DiskFiles, FailingFiles, FileFault, Files, MemFiles};
 use std::process::Abort;
 use std::test::Fail;
-use std::{fs, process};
+use std::{env, fs, process};
 
 const NAME: &str = "regulatory.db";
 
@@ -52,7 +52,9 @@ fn a_failing_file_fails_at_its_calls(rt: HostRuntime) -> Result<(), Fail> {
 // `/dev/zero` has no end.
 #[test]
 fn a_file_of_the_system_is_read(rt: HostRuntime) -> Result<(), Fail> {
-    let name = format!(in rt.alloc(); "/tmp/regtool-{}.db", process::id(rt.process()))?;
+    let folder = env::temp_dir(&rt)?;
+    let name =
+        format!(in rt.alloc(); "{}/regtool-{}.db", folder.as_str(), process::id(rt.process()))?;
     fs::write(&rt, name.as_str(), "RGDB")?;
     let mut files = DiskFiles::new(&rt);
     let read = files.read_file(rt.alloc(), name.as_str(), 4);
@@ -63,7 +65,7 @@ fn a_file_of_the_system_is_read(rt: HostRuntime) -> Result<(), Fail> {
     let endless = files.read_file(rt.alloc(), "/dev/zero", 100_000);
     assert_eq!(rt; endless.err(), Some(FileFault::TooLong));
     assert_eq!(rt; files.faults(), 0);
-    for name in ["/no folder/regulatory.db", "/tmp", ""] {
+    for name in ["/no folder/regulatory.db", "/dev", ""] {
         let missing = files.read_file(rt.alloc(), name, 4);
         assert_eq!(rt; missing.err(), Some(FileFault::Failed), "for {name}");
     }
