@@ -7,7 +7,6 @@ use Rattle.rule_tables.specs.declared.code.Alpha2.{Alpha2}
 use Rattle.rule_tables.specs.declared.domain.Domain.{Domain}
 use Rattle.db_reader.proofs.OneFault.{IsFirst-unique}
 use Rattle.db_text.specs.Printed.{HasTimeAt, IsFirstTime, LacksTimes, LackTimes}
-use Rattle.regtool.specs.declared.status.InputFault.{InputFault}
 use Rattle.regtool.specs.declared.status.InputFault.TheVariants.{CacTime}
 
 -- rules without check times have none at a place

@@ -21,11 +21,17 @@ pub record Device : Type 0 where
   pub faults_before : ℕ
   pub faults_after : ℕ
 
+abbrev pub around : Option (List ℕ) → Option (List ℕ) → ℕ → ℕ → Device
+around before after faults_before faults_after = record { before = before; after = after; faults_before = faults_before; faults_after = faults_after }
+
 -- a call of the program: its words, its input and its output
 pub record Call : Type 0 where
   pub words : List (String Global)
   pub input : Device
   pub output : Device
+
+abbrev pub called : List (String Global) → Device → Device → Call
+called words input output = record { words = words; input = input; output = output }
 
 -- the call did nothing to it
 pub record IsUntouched (d : Device) : Type 0 where

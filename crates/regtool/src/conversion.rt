@@ -61,8 +61,8 @@ impl Conversion {
         }
     }
 
-    /// What the command writes for the input, or why it accepts none; `OutOfMemory` comes where no
-    /// memory was found.
+    /// What the command writes for the input, or why the input isn't accepted; `OutOfMemory` comes
+    /// where no memory was found.
     pub fn output_for(self, alloc: Global, input: &[u8]) -> Result<Bytes, Refusal>
         ensures output { IfOk result (Gives self input.now) }
         ensures cause { IfErr result (IsRefusal self input.now) }

@@ -1,7 +1,7 @@
 //! The program as a function of its words, its input and its output.
 
 ghost use Rattle.std.specs.Prelude.{◌≤◌};
-ghost use Rattle.regtool.specs.Answer.{IsAnswer, IsComplete, IsConverted, TellsFault, TellsLength};
+ghost use Rattle.regtool.specs.Answer.{IsAnswer, IsComplete, IsConverted, TellsFault, TellsLength, around, called};
 
 #[cfg(test)]
 mod tests;
@@ -15,9 +15,9 @@ use std::alloc::Global;
 const INPUT_LIMIT: usize = 16_777_216;
 
 /// Runs the program on the words behind its name. `compile` reads a rule text and writes its
-/// database; `check` reads a database and writes how many countries and rules it has; other words
-/// are `Usage`. The first thing that fails gives the status, in the order words, reading, the
-/// limit, the input's fault, writing.
+/// database, `decompile` reads a database and writes its text, and `check` reads one and writes how
+/// many countries and rules it has; other words are `Usage`. The first thing that fails gives the
+/// status, in the order words, reading, the limit, the input's fault, writing.
 pub fn regtool<S: Source, K: Sink>(
     alloc: Global,
     words: &[String],
@@ -25,29 +25,21 @@ pub fn regtool<S: Source, K: Sink>(
     out: &mut K,
 ) -> Status
     // What each status says of what was read and written.
-    ensures answer { IsAnswer (record {
-      words = words.now;
-      input = record { before = S.left input.old; after = S.left input.new; faults_before = S.count input.old; faults_after = S.count input.new };
-      output = record { before = K.held out.old; after = K.held out.new; faults_before = K.count out.old; faults_after = K.count out.new };
-    }) result }
+    ensures answer { IsAnswer (called words.now
+        (around (S.left input.old) (S.left input.new) (S.count input.old) (S.count input.new))
+        (around (K.held out.old) (K.held out.new) (K.count out.old) (K.count out.new))) result }
     // That an input which is accepted gives its output.
-    ensures complete { IsComplete (record {
-      words = words.now;
-      input = record { before = S.left input.old; after = S.left input.new; faults_before = S.count input.old; faults_after = S.count input.new };
-      output = record { before = K.held out.old; after = K.held out.new; faults_before = K.count out.old; faults_after = K.count out.new };
-    }) result }
+    ensures complete { IsComplete (called words.now
+        (around (S.left input.old) (S.left input.new) (S.count input.old) (S.count input.new))
+        (around (K.held out.old) (K.held out.new) (K.count out.old) (K.count out.new))) result }
     // That an input with a fault is refused by that fault.
-    ensures fault { TellsFault (record {
-      words = words.now;
-      input = record { before = S.left input.old; after = S.left input.new; faults_before = S.count input.old; faults_after = S.count input.new };
-      output = record { before = K.held out.old; after = K.held out.new; faults_before = K.count out.old; faults_after = K.count out.new };
-    }) result }
+    ensures fault { TellsFault (called words.now
+        (around (S.left input.old) (S.left input.new) (S.count input.old) (S.count input.new))
+        (around (K.held out.old) (K.held out.new) (K.count out.old) (K.count out.new))) result }
     // That an input above the limit is too long.
-    ensures length { TellsLength (record {
-      words = words.now;
-      input = record { before = S.left input.old; after = S.left input.new; faults_before = S.count input.old; faults_after = S.count input.new };
-      output = record { before = K.held out.old; after = K.held out.new; faults_before = K.count out.old; faults_after = K.count out.new };
-    }) result }
+    ensures length { TellsLength (called words.now
+        (around (S.left input.old) (S.left input.new) (S.count input.old) (S.count input.new))
+        (around (K.held out.old) (K.held out.new) (K.count out.old) (K.count out.new))) result }
     ensures input_faults { S.count input.old ≤ S.count input.new }
     ensures output_faults { K.count out.old ≤ K.count out.new }
 {
@@ -63,11 +55,9 @@ fn dispatch<S: Source, K: Sink>(
 ) -> Status
     ensures input_faults { S.count input.old ≤ S.count input.new }
     ensures output_faults { K.count out.old ≤ K.count out.new }
-    ensures answer { IsAnswer (record {
-      words = words.now;
-      input = record { before = S.left input.old; after = S.left input.new; faults_before = S.count input.old; faults_after = S.count input.new };
-      output = record { before = K.held out.old; after = K.held out.new; faults_before = K.count out.old; faults_after = K.count out.new };
-    }) result }
+    ensures answer { IsAnswer (called words.now
+        (around (S.left input.old) (S.left input.new) (S.count input.old) (S.count input.new))
+        (around (K.held out.old) (K.held out.new) (K.count out.old) (K.count out.new))) result }
 {
     match Conversion::named(words) {
         Some(command) => convert(command, alloc, input, out),
@@ -86,9 +76,8 @@ fn convert<S: Source, K: Sink>(
     ensures input_faults { S.count input.old ≤ S.count input.new }
     ensures output_faults { K.count out.old ≤ K.count out.new }
     ensures converted { IsConverted command
-        (record { before = S.left input.old; after = S.left input.new; faults_before = S.count input.old; faults_after = S.count input.new })
-        (record { before = K.held out.old; after = K.held out.new; faults_before = K.count out.old; faults_after = K.count out.new })
-        result }
+        (around (S.left input.old) (S.left input.new) (S.count input.old) (S.count input.new))
+        (around (K.held out.old) (K.held out.new) (K.count out.old) (K.count out.new)) result }
 {
     let given = match read_to_end(alloc, input, INPUT_LIMIT) {
         Ok(given) => given,

@@ -53,8 +53,11 @@ fn a_failing_file_fails_at_its_calls(rt: HostRuntime) -> Result<(), Fail> {
 #[test]
 fn a_file_of_the_system_is_read(rt: HostRuntime) -> Result<(), Fail> {
     let folder = env::temp_dir(&rt)?;
-    let name =
-        format!(in rt.alloc(); "{}/regtool-{}.db", folder.as_str(), process::id(rt.process()))?;
+    let name = format!(in rt.alloc();
+        "{}/regtool-{}.db",
+        folder.as_str(),
+        process::id(rt.process())
+    )?;
     fs::write(&rt, name.as_str(), "RGDB")?;
     let mut files = DiskFiles::new(&rt);
     let read = files.read_file(rt.alloc(), name.as_str(), 4);
