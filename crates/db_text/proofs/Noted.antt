@@ -155,11 +155,11 @@ numbered_more ws w n old new are none at says q = says q ∙ elim (cases_Bool (p
   | inl is ↦
       let same : wmm_numbers w ≡ q = (bytes_eq-Decides (wmm_numbers w) q).0 is in
       rw (is_eq-slice_cmp (wmm_numbers w) q, is) (subst (λ x. Some n ≡ position (has_numbers x) (ws ++ w ∷ [])) same
-        (ap Some at ∙ sym (place_last (same_wmm w) ws w (same_wmm-itself w) none)))
+      (ap Some at ∙ sym (place_last (same_wmm w) ws w (same_wmm-itself w) none)))
   | inr differ ↦
       let other : has_numbers q w ≡ false = false_from_ne_true (has_numbers q w) (λ t.
-          let same = (bytes_eq-Decides q (wmm_numbers w)).0 t in
-          let e = (bytes_eq-Decides (wmm_numbers w) q).1 (sym same) in cc) in
+      let same = (bytes_eq-Decides q (wmm_numbers w)).0 t in
+      let e = (bytes_eq-Decides (wmm_numbers w) q).1 (sym same) in cc) in
       rw (is_eq-slice_cmp (wmm_numbers w) q, differ) (are q ∙ sym (place_more (has_numbers q) ws w other))
 ]
 

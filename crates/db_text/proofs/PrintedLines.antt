@@ -49,7 +49,7 @@ fine_line lines forms line squeezed form n fine prints few is right =
       accepted = (
         fine.accepted,
         readable_good forms line form (record { short = omega (arith, short, few); utf8 = utf8_plain line squeezed n prints })
-        (subst (λ l. IsForm l form) (sym same) is) (subst (IsRight forms) (sym same) right),
+            (subst (λ l. IsForm l form) (sym same) is) (subst (IsRight forms) (sym same) right),
       );
       each = All-cons IsOneLine line lines (one_line line squeezed n prints) fine.each;
     }
@@ -184,7 +184,7 @@ pub country_prints : (d : Domain) → IsCode d.alpha2 → Prints (country_line d
 unfolding country_line
 country_prints d is =
     let s1 = joined (codes "country ") (d.alpha2.a ∷ d.alpha2.b ∷ []) (codes "country") (d.alpha2.a ∷ d.alpha2.b ∷ []) 8 2 10 (record { plain = refl; solid = refl; short = omega arith })
-        (prints_code d.alpha2 is) (omega arith) in
+    (prints_code d.alpha2 is) (omega arith) in
     let s2 = joined _ (codes ":") _ (codes ":") 10 1 11 s1 (record { plain = refl; solid = refl; short = omega arith }) (omega arith) in
     joined _ (region_part (region_name d.region)) _ (region_name d.region) 11 9 20 s2 (prints_region d.region) (omega arith)
 

@@ -96,14 +96,14 @@ prints_rule rule name valid named =
     let e2 = valid.wide_enough in
     let e3 = valid.end_fits in
     let pieces = rule_pieces (mhz_text rule.start_khz) (mhz_text rule.end_khz) (mhz_text rule.max_bw_khz) (dbm_text rule.eirp_mbm) (flags_part rule.flags ++ name_part name)
-        (decimal_text (mhz_of rule.start_khz)) (decimal_text (mhz_of rule.end_khz)) (decimal_text (mhz_of rule.max_bw_khz)) (decimal_text (dbm_of rule.eirp_mbm)) (words_text (printed_words rule.flags name))
-        (prints_mhz rule.start_khz (omega (arith, e1, e3))) (prints_mhz rule.end_khz e3) (prints_mhz rule.max_bw_khz (omega (arith, e1, e2, e3)))
-        (prints_dbm rule.eirp_mbm valid.power_fits) (prints_words rule.flags name named) in
+    (decimal_text (mhz_of rule.start_khz)) (decimal_text (mhz_of rule.end_khz)) (decimal_text (mhz_of rule.max_bw_khz)) (decimal_text (dbm_of rule.eirp_mbm)) (words_text (printed_words rule.flags name))
+    (prints_mhz rule.start_khz (omega (arith, e1, e3))) (prints_mhz rule.end_khz e3) (prints_mhz rule.max_bw_khz (omega (arith, e1, e2, e3)))
+    (prints_dbm rule.eirp_mbm valid.power_fits) (prints_words rule.flags name named) in
     same_prints 200
     (append_assoc (codes "(" ++ mhz_text rule.start_khz ++ codes " - " ++ mhz_text rule.end_khz ++ codes " @ " ++ mhz_text rule.max_bw_khz ++ codes "), (" ++ dbm_text rule.eirp_mbm ++ codes ")")
-        (flags_part rule.flags) (name_part name))
+    (flags_part rule.flags) (name_part name))
     (regroup (codes "(" ++ decimal_text (mhz_of rule.start_khz) ++ codes "-" ++ decimal_text (mhz_of rule.end_khz) ++ codes "@" ++ decimal_text (mhz_of rule.max_bw_khz))
-        (decimal_text (dbm_of rule.eirp_mbm)) (words_text (printed_words rule.flags name)))
+    (decimal_text (dbm_of rule.eirp_mbm)) (words_text (printed_words rule.flags name)))
     pieces
 
 -- the rule without its WMM rule, as its line says it

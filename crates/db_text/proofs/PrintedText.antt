@@ -196,4 +196,4 @@ printed_rule_reads rule valid no_time no_wmm =
     let short = prints.short in
     subst (IsTextOfRule (printed_rule rule None)) (same_rule rule no_wmm)
     (bare-rule (printed_rule rule None) (bare_rule rule) (record { short = omega (arith, short); utf8 = utf8_plain (printed_rule rule None) (squeezed_rule rule None) 200 prints })
-        (record { is = subst (λ line. IsRuleLine line (bare_rule rule) None) (sym squeezed) is }))
+    (record { is = subst (λ line. IsRuleLine line (bare_rule rule) None) (sym squeezed) is }))

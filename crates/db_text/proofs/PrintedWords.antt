@@ -74,13 +74,13 @@ gathered-flags f =
     let e = word_if f.no_ir NoIr in
     gathered-append no_flags (a ++ b ++ c ++ d) e
     ∙ ap (λ x. gathered x e) (
-      gathered-append no_flags (a ++ b ++ c) d
-      ∙ ap (λ x. gathered x d) (
-        gathered-append no_flags (a ++ b) c
-        ∙ ap (λ x. gathered x c) (gathered-append no_flags a b ∙ ap (λ x. gathered x b) (flags_step1 f.no_ofdm) ∙ flags_step2 f.no_ofdm f.no_outdoor)
-        ∙ flags_step3 f.no_ofdm f.no_outdoor f.dfs
-      )
-      ∙ flags_step4 f.no_ofdm f.no_outdoor f.dfs f.auto_bw
+    gathered-append no_flags (a ++ b ++ c) d
+    ∙ ap (λ x. gathered x d) (
+    gathered-append no_flags (a ++ b) c
+    ∙ ap (λ x. gathered x c) (gathered-append no_flags a b ∙ ap (λ x. gathered x b) (flags_step1 f.no_ofdm) ∙ flags_step2 f.no_ofdm f.no_outdoor)
+    ∙ flags_step3 f.no_ofdm f.no_outdoor f.dfs
+    )
+    ∙ flags_step4 f.no_ofdm f.no_outdoor f.dfs f.auto_bw
     )
     ∙ flags_step5 f.no_ofdm f.no_outdoor f.dfs f.auto_bw f.no_ir
 
@@ -138,8 +138,8 @@ each_flag P f p q r s t =
     let e = word_if f.no_ir NoIr in
     All-append P (a ++ b ++ c ++ d) e
     (All-append P (a ++ b ++ c) d
-        (All-append P (a ++ b) c (All-append P a b (each_if P f.no_ofdm NoOfdm p) (each_if P f.no_outdoor NoOutdoor q)) (each_if P f.dfs Dfs r))
-        (each_if P f.auto_bw AutoBw s))
+    (All-append P (a ++ b) c (All-append P a b (each_if P f.no_ofdm NoOfdm p) (each_if P f.no_outdoor NoOutdoor q)) (each_if P f.dfs Dfs r))
+    (each_if P f.auto_bw AutoBw s))
     (each_if P f.no_ir NoIr t)
 
 -- a name that can be printed

@@ -35,8 +35,8 @@ pub valid_uses : (ds : List Domain) → IsDb ds → All IsValidWmm (first_uses (
 valid_uses ds db =
     all_first IsValidWmm (wmm_in ds)
     (all_flat IsValidWmm (λ (d : Domain). wmm_in_rules d.rules) ds (λ j d less.
-        let one = db.each j d less in
-        all_flat IsValidWmm wmm_in_rule (get_or ds j d).rules (λ k r below. all_option IsValidWmm (get_or (get_or ds j d).rules k r).wmm (one.rules.each k r below).wmm)))
+    let one = db.each j d less in
+    all_flat IsValidWmm wmm_in_rule (get_or ds j d).rules (λ k r below. all_option IsValidWmm (get_or (get_or ds j d).rules k r).wmm (one.rules.each k r below).wmm)))
 
 -- ---- each that is used is there
 

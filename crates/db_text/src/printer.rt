@@ -8,6 +8,9 @@ ghost use Rattle.db_text.specs.PrintedRules.{name_part};
 ghost use Rattle.db_text.specs.Spelling.{region_name};
 ghost use Rattle.db_text.specs.TextOf.{TextOf};
 
+#[cfg(test)]
+mod tests;
+
 use crate::print_fault::PrintFault;
 use crate::rule_printer::put_rule_part;
 use crate::wmm_names::{WmmNames, wmm_names};
