@@ -1,9 +1,8 @@
 -- The printed lines of countries give each its rules.
-use Rattle.std.proofs.Common.{◌≡◌, ◌≢◌, ℕ, ◌+◌, ◌<◌, ◌≤◌, ◌⊎◌, true, false, List, [], ◌∷◌, ◌++◌, length, get_or, map, flat_map, All, AllPairs, Contains, Option, Some, None, option_map, arith, refl, sym, subst, ap, ◌∙◌, inl, inr, append_assoc, append-nil}
+use Rattle.std.proofs.Common.{◌≡◌, ◌≢◌, ℕ, ◌+◌, ◌<◌, ◌≤◌, true, false, List, [], ◌∷◌, ◌++◌, length, get_or, map, flat_map, All, AllPairs, Contains, Option, Some, None, option_map, arith, refl, sym, subst, ap, ◌∙◌, inl, inr, append_assoc, append-nil}
 use Rattle.std.specs.Prelude.{codes}
-use Rattle.std.specs.List.{list_any}
 use Rattle.std.proofs.lemmas.List.{get_or_append_left, get_or_at, length-append, length_push}
-use Rattle.std.proofs.lemmas.List.Elements.{All-contains, All-from_get_or, All-head, All-nil, All-push, All-tail, All-weaker, Contains-append_left, Contains-get_or, Contains-push}
+use Rattle.std.proofs.lemmas.List.Elements.{All-head, All-push, All-tail, All-weaker, Contains-append_left, Contains-get_or, Contains-push}
 use Rattle.freq_range.proofs.Members.{Contains-cases, Contains-head, Contains-nothing}
 use Rattle.freq_range.specs.Valid.{IsValidRule}
 use Rattle.freq_range.specs.declared.rule.Rule.{Rule}
@@ -15,7 +14,7 @@ use Rattle.rule_tables.specs.declared.code.Alpha2.{Alpha2}
 use Rattle.rule_tables.specs.declared.code.Region.{Region}
 use Rattle.rule_tables.specs.declared.domain.Domain.{Domain}
 use Rattle.db_text.specs.Faults.{HasTooMany, IsContradicted}
-use Rattle.db_text.specs.Forms.{Form, Names, block_of, is_of_code, named_wmm, rules_of, same_code, with_named, wmm_of}
+use Rattle.db_text.specs.Forms.{Form, Names, block_of, is_of_code, named_wmm, rules_of, wmm_of}
 use Rattle.db_text.specs.Forms.Block.{OfCountries}
 use Rattle.db_text.specs.Forms.Form.{Country, RuleLine}
 use Rattle.db_text.specs.Printed.{country_line, country_lines, name_among, rule_line}

@@ -1,5 +1,5 @@
 -- A printed line is accepted below the lines above it.
-use Rattle.std.proofs.Common.{◌≡◌, ◌≢◌, ℕ, ◌+◌, ◌-◌, ◌^◌, ◌<◌, ◌≤◌, ◌==◌, false, List, [], ◌∷◌, ◌++◌, length, All, Contains, reverse, arith, refl, sym, subst, ap, ◌∙◌, append_assoc, inl, inr, lit<}
+use Rattle.std.proofs.Common.{◌≡◌, ℕ, ◌+◌, ◌-◌, ◌^◌, ◌<◌, ◌≤◌, ◌==◌, false, List, [], ◌∷◌, ◌++◌, All, reverse, arith, refl, sym, subst, ap, ◌∙◌, append_assoc, inl, inr, lit<}
 use Rattle.std.specs.Prelude.{codes}
 use Rattle.std.specs.Fmt.{decimal}
 use Rattle.std.specs.List.{slice_split}
@@ -19,9 +19,9 @@ use Rattle.db_text.specs.declared.form.Item.TheVariants.{VoC, ViC, BeC, BkC, VoA
 use Rattle.db_text.specs.Faults.{AreAccepted}
 use Rattle.db_text.specs.Forms.{Form, IsForm}
 use Rattle.db_text.specs.Printed.{country_line, item_line, region_part, text_of_lines, wmm_name}
-use Rattle.db_text.specs.Spelling.{AreCodes, IsDigit, IsHeader, IsItemLine, IsName, IsNumber, IsWmmHeader, ItemText, codes_text, item_name, item_text, region_name, value_of_digits}
+use Rattle.db_text.specs.Spelling.{IsHeader, IsItemLine, IsWmmHeader, ItemText, codes_text, item_name, item_text, region_name}
 use Rattle.db_text.proofs.GoodLines.{IsRight}
-use Rattle.db_text.proofs.PlainLines.{IsSolid, Prints, bare_plain, is_plain, joined, one_line, prints_digits, prints_solid, utf8_plain}
+use Rattle.db_text.proofs.PlainLines.{IsSolid, Prints, bare_plain, joined, one_line, prints_digits, prints_solid, utf8_plain}
 use Rattle.db_text.proofs.PrintedDigits.{decimal_digits, decimal_number, decimal_short, decimal_value}
 use Rattle.db_text.proofs.PrintedRuleLines.{wmm_name-is, wmm_name-prints}
 use Rattle.db_text.proofs.WholeLine.{readable_good}

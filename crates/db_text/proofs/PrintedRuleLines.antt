@@ -1,9 +1,8 @@
 -- The printed line of a rule is the line of that rule.
-use Rattle.std.proofs.Common.{◌≡◌, ℕ, ◌+◌, ◌/◌, ◌^◌, ◌<◌, ◌≤◌, List, [], ◌∷◌, ◌++◌, length, All, Option, Some, None, arith, refl, sym, subst, ap, ◌∙◌, append_assoc, inl, inr}
+use Rattle.std.proofs.Common.{◌≡◌, ℕ, ◌/◌, ◌^◌, ◌<◌, ◌≤◌, List, [], ◌∷◌, ◌++◌, length, All, Option, None, arith, refl, sym, subst, append_assoc, inl, inr}
 use Rattle.std.specs.Prelude.{codes}
 use Rattle.std.specs.Fmt.{decimal}
-use Rattle.std.proofs.lemmas.List.Elements.{All-append, All-cons, All-weaker}
-use Rattle.std.proofs.lemmas.List.{length-append}
+use Rattle.std.proofs.lemmas.List.Elements.{All-cons, All-weaker}
 use Rattle.freq_range.specs.Valid.{IsValidRule}
 use Rattle.freq_range.specs.declared.rule.Rule.{Rule}
 use Rattle.db_text.specs.Printed.{wmm_name}
@@ -13,7 +12,7 @@ use Rattle.db_text.specs.Spelling.{Decimal, IsDecimal, IsDigit, IsName, IsNameBy
 use Rattle.db_text.specs.Spelling.Gain.{NoGain}
 use Rattle.db_text.specs.Spelling.Power.{Dbm}
 use Rattle.db_text.proofs.PlainLines.{Prints, joined, prints_digits}
-use Rattle.db_text.proofs.PrintedDigits.{dbm_decimal, dbm_value, decimal_digits, decimal_short, mhz_decimal, mhz_value, short_thousandths}
+use Rattle.db_text.proofs.PrintedDigits.{dbm_decimal, dbm_value, decimal_digits, decimal_short, mhz_decimal, mhz_value}
 use Rattle.db_text.proofs.PrintedWords.{IsNamed, printed_are_words, printed_flags, printed_kept, printed_names, printed_words, prints_words}
 
 -- ---- names

@@ -1,7 +1,6 @@
 -- The words behind a printed power: the flags that are set, and the name of a WMM rule.
-use Rattle.std.proofs.Common.{◌≡◌, ℕ, ◌+◌, ◌<◌, ◌≤◌, Bool, true, false, List, [], ◌∷◌, ◌++◌, length, flat_map, All, Option, Some, None, arith, refl, sym, subst, ap, ◌∙◌, append-nil, append_assoc}
+use Rattle.std.proofs.Common.{◌≡◌, ℕ, ◌+◌, ◌≤◌, Bool, true, false, List, [], ◌∷◌, ◌++◌, length, All, Option, Some, None, arith, refl, sym, subst, ap, ◌∙◌, append-nil}
 use Rattle.std.specs.Prelude.{codes, fold}
-use Rattle.std.proofs.lemmas.List.{length-append}
 use Rattle.std.proofs.lemmas.List.Concat.{flat_map-append}
 use Rattle.std.proofs.lemmas.List.Elements.{All-append, All-cons, All-nil}
 use Rattle.std.proofs.lemmas.List.Sums.{fold-append}
@@ -9,7 +8,7 @@ use Rattle.freq_range.specs.declared.flags.RuleFlags.{RuleFlags}
 use Rattle.db_text.specs.declared.form.Flag.{Flag}
 use Rattle.db_text.specs.declared.form.Flag.TheVariants.{NoOfdm, NoOutdoor, Dfs, NoIr, AutoBw}
 use Rattle.db_text.specs.PrintedRules.{flag_part, flags_part, name_part}
-use Rattle.db_text.specs.Spelling.{AreWords, IsKept, IsKeptWord, IsName, IsWord, Word, flags_of, list_of, names_in, no_flags, with_word, word_text, words_text}
+use Rattle.db_text.specs.Spelling.{AreWords, IsKeptWord, IsName, IsWord, Word, flags_of, list_of, names_in, no_flags, with_word, word_text, words_text}
 use Rattle.db_text.specs.Spelling.Word.{OfFlag, OfName}
 use Rattle.db_text.proofs.PlainLines.{Prints, joined}
 

@@ -1,6 +1,6 @@
 -- The one text of a database: the WMM rules in use, in order of their first use, and then the countries, each with its
 -- rules.
-use Rattle.std.specs.Prelude.{◌≡◌, ℕ, ◌+◌, ◌-◌, ◌^◌, ◌<◌, Bool, not, nat_eq, List, [], ◌∷◌, ◌++◌, length, map, flat_map, filter, All, Option, Some, None, option_map, option_to_list, slice_index_or, codes, decimal}
+use Rattle.std.specs.Prelude.{◌≡◌, ℕ, ◌+◌, ◌-◌, ◌^◌, ◌<◌, Bool, not, nat_eq, List, [], ◌∷◌, ◌++◌, length, map, flat_map, filter, All, option_map, option_to_list, slice_index_or, codes, decimal}
 use Rattle.std.specs.Cmp.Lexicographic.{pointwise}
 use Rattle.std.specs.List.{position_or_len}
 use Rattle.freq_range.specs.First.{IsFirst}

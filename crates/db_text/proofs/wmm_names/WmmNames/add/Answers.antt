@@ -1,11 +1,4 @@
-use Rattle.std.proofs.Common.{◌≡◌, ◌∙◌, List, Option, Some, None, ap, sym, rules, true, false}
-use Rattle.std.specs.BTreeMap.{get}
-use Rattle.std.specs.Cmp.Lexicographic.{slice_cmp}
-use Rattle.std.specs.List.{position}
-use Rattle.std.specs.Option.{is_some}
-use Rattle.std.specs.Ordering.{nat_cmp}
-use Rattle.db_text.specs.Naming.{noted}
-use Rattle.db_text.specs.Printed.{same_wmm, wmm_numbers}
+use Rattle.std.proofs.Common.{◌∙◌, sym, rules}
 use Rattle.db_text.proofs.Noted.{lacks_noted, has_noted, numbered_more, lacks_place}
 use Rattle.db_text.proofs.wmm_names.WmmNames.add.Goals as goal
 
