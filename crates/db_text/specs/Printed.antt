@@ -131,7 +131,7 @@ pub record IsFirstTime (ds : List Domain) (country : Alpha2) (k : ℕ) : Type 0 
   pub code : (d : Domain) → (slice_index_or ds place d).alpha2 ≡ country
   pub rule : (d : Domain) → IsFirst (HasTimeAt (slice_index_or ds place d).rules) k
 
--- why a database has no text
+-- why a database has no text; memory is asked for only where each rule can be printed
 abbrev pub IsPrintFault : List Domain → PrintFault → Type 0
 IsPrintFault ds (CacTime country k) = IsFirstTime ds country k
-IsPrintFault ds OutOfMemory = Unit {0}
+IsPrintFault ds OutOfMemory = LackTimes ds

@@ -134,7 +134,7 @@ fn text_of(alloc: Global, db: &Db) -> Result<Bytes, OutOfMemory>
 /// it as this database.
 ///
 /// Otherwise the fault is `CacTime` with the first rule that has a check time, countries and rules
-/// in order, or want of memory.
+/// in order, or where no rule has one, want of memory.
 pub fn print(alloc: Global, db: &Db) -> Result<Bytes, PrintFault>
     ensures text { IfOk result (λ text. text ≡ printed db.now) }
     ensures reads { IfOk result (λ text. TextOf text db.now) }
