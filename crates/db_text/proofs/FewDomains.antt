@@ -1,6 +1,5 @@
 -- A database has few domains, as each has a code of its own, and so few WMM rules in use.
-use Rattle.std.proofs.Common.{◌≡◌, ℕ, zero, suc, ◌+◌, ◌*◌, ◌^◌, ◌<◌, ◌≤◌, List, [], ◌∷◌, length, get_or, AllPairs, inl, inr, arith}
-use Rattle.std.proofs.lemmas.Nat.{mul-le}
+use Rattle.std.proofs.Common.{ℕ, zero, suc, ◌<◌, ◌≤◌, List, [], ◌∷◌, length, get_or, AllPairs, inl, inr, arith}
 use Rattle.rule_tables.specs.Code.{key}
 use Rattle.rule_tables.specs.Databases.{IsDb}
 use Rattle.rule_tables.specs.declared.domain.Domain.{Domain}

@@ -16,21 +16,20 @@ use Rattle.db_text.specs.declared.fault.TextKind.TheVariants.{LineTooLong, NotUt
 use Rattle.db_text.specs.declared.form.Item.{Item}
 use Rattle.db_text.specs.declared.form.Opening.{Opening}
 use Rattle.db_text.specs.declared.form.Opening.TheVariants.{Country as OfCountry, Wmm as OfWmm, Rule as OfRule, Item as OfItem}
-use Rattle.db_text.specs.Faults.{Applies, HasTooMany, IsContradicted, IsGoodLine, IsInWmm, IsLineFault, IsWrong, MakesTooMany, NamesNoWmm, place_of_kind}
+use Rattle.db_text.specs.Faults.{Applies, HasTooMany, IsGoodLine, IsInWmm, IsLineFault, IsWrong, MakesTooMany, NamesNoWmm, place_of_kind}
 use Rattle.db_text.specs.Forms.{Form, IsForm, block_of, wmm_of}
 use Rattle.db_text.specs.Forms.Block.{OfCountries}
 use Rattle.db_text.specs.Forms.Form.{Country, Empty, ItemLine, RuleLine, WmmHeader}
 use Rattle.db_text.specs.Lines.{bare}
-use Rattle.db_text.specs.Spelling.{IsHeader, IsItemLine, IsRuleLine, IsSpelledRule, IsWmmHeader, Opens, RuleText, list_of, names_in, region_name}
+use Rattle.db_text.specs.Spelling.{IsHeader, IsItemLine, IsRuleLine, IsSpelledRule, IsWmmHeader, Opens, RuleText, list_of, names_in}
 use Rattle.db_text.specs.State.{IsBareFault}
-use Rattle.db_text.proofs.Contexts.{same_codes_block, told_contradicted, told_has_item, told_in_countries, told_in_wmm, told_too_many}
+use Rattle.db_text.proofs.Contexts.{told_contradicted, told_has_item, told_in_countries, told_in_wmm, told_too_many}
 use Rattle.db_text.proofs.EmptyLines.{empty_good}
 use Rattle.freq_range.proofs.Deciding.{Told, told_any, told_lt}
-use Rattle.db_text.proofs.FormLaws.{same_header}
-use Rattle.db_text.proofs.LineForms.{IsForm-unique, IsSpelledRule-unique, IsWmmHeader-unique, decide_entry, decide_header, decide_opening, decide_rule, decide_wmm_name}
+use Rattle.db_text.proofs.LineForms.{IsSpelledRule-unique, decide_entry, decide_header, decide_opening, decide_rule, decide_wmm_name}
 use Rattle.db_text.proofs.GoodLines.{few_rules, good_header, good_item, good_name, good_rule}
 use Rattle.db_text.proofs.HeaderTaken.{contradicted_stop, header_stop, wmm_bad}
-use Rattle.db_text.proofs.LineLaws.{country_first, good, item_first, item_outside, item_wrong, wmm_first, wmm_header_wrong}
+use Rattle.db_text.proofs.LineLaws.{item_first, item_outside, wmm_first, wmm_header_wrong}
 use Rattle.db_text.proofs.RuleTaken.{item_bad, item_nothing, rule_allows, rule_nothing, rule_stop}
 
 -- a line whose comment and blanks are dropped is good with some form, or has a first fault

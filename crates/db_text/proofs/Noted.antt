@@ -1,9 +1,8 @@
 -- What the printer gathers is each WMM rule in use once, in order of its first use, and the map has the place of each.
-use Rattle.std.proofs.Common.{◌≡◌, ◌≢◌, ℕ, ◌+◌, ◌<◌, ◌≤◌, ◌⊎◌, ◌&&◌, ◌||◌, Bool, true, false, not, cond, eqb, ltb, nat_eq, List, [], ◌∷◌, ◌++◌, length, get_or, filter, Option, Some, None, arith, refl, sym, subst, ap, ◌∙◌, inl, inr, eq-eqb, append_assoc, append-nil, if◌then◌else◌}
-use Rattle.std.proofs.lemmas.Bool.{cases_Bool, cases_lt, cases_eq, ne_eqb, false_from_ne_true}
+use Rattle.std.proofs.Common.{◌≡◌, ℕ, ◌+◌, ◌<◌, ◌≤◌, ◌&&◌, ◌||◌, Bool, true, false, not, cond, eqb, ltb, nat_eq, List, [], ◌∷◌, ◌++◌, length, filter, Option, Some, None, arith, refl, sym, subst, ap, ◌∙◌, inl, inr, eq-eqb, append_assoc, append-nil}
+use Rattle.std.proofs.lemmas.Bool.{cases_Bool, cases_lt, false_from_ne_true}
 use Rattle.std.proofs.lemmas.Bool.Decides.{nat_tests}
 use Rattle.std.proofs.lemmas.List.{length-append}
-use Rattle.std.proofs.lemmas.List.Elements.{filter_agree}
 use Rattle.std.proofs.lemmas.List.Folds.{list_any-append, list_any_at, list_any_none, position_or_len_push}
 use Rattle.std.proofs.lemmas.List.Quantifiers.{position-Some}
 use Rattle.std.proofs.lemmas.List.Sums.{fails_before_first, prefix_len-le-length}
@@ -18,7 +17,7 @@ use Rattle.std.specs.Ordering.{is_eq, nat_cmp}
 use Rattle.freq_range.specs.declared.wmm.Wmm.{Wmm}
 use Rattle.db_text.specs.Naming.{AreNumbered, all_noted, noted}
 use Rattle.db_text.specs.Printed.{first_uses, same_wmm, wmm_numbers}
-use Rattle.db_text.proofs.SameWmm.{cases_wmm, same_wmm-apart, same_wmm-itself, same_wmm-true}
+use Rattle.db_text.proofs.SameWmm.{cases_wmm, same_wmm-itself}
 
 -- ---- each once, in order of first use
 
@@ -155,11 +154,11 @@ numbered_more ws w n old new are none at says q = says q ∙ elim (cases_Bool (p
   | inl is ↦
       let same : wmm_numbers w ≡ q = (bytes_eq-Decides (wmm_numbers w) q).0 is in
       rw (is_eq-slice_cmp (wmm_numbers w) q, is) (subst (λ x. Some n ≡ position (has_numbers x) (ws ++ w ∷ [])) same
-        (ap Some at ∙ sym (place_last (same_wmm w) ws w (same_wmm-itself w) none)))
+      (ap Some at ∙ sym (place_last (same_wmm w) ws w (same_wmm-itself w) none)))
   | inr differ ↦
       let other : has_numbers q w ≡ false = false_from_ne_true (has_numbers q w) (λ t.
-          let same = (bytes_eq-Decides q (wmm_numbers w)).0 t in
-          let e = (bytes_eq-Decides (wmm_numbers w) q).1 (sym same) in cc) in
+      let same = (bytes_eq-Decides q (wmm_numbers w)).0 t in
+      let e = (bytes_eq-Decides (wmm_numbers w) q).1 (sym same) in cc) in
       rw (is_eq-slice_cmp (wmm_numbers w) q, differ) (are q ∙ sym (place_more (has_numbers q) ws w other))
 ]
 

@@ -1,9 +1,8 @@
 -- The printed lines of countries give each its rules.
-use Rattle.std.proofs.Common.{◌≡◌, ◌≢◌, ℕ, ◌+◌, ◌<◌, ◌≤◌, ◌⊎◌, true, false, List, [], ◌∷◌, ◌++◌, length, get_or, map, flat_map, All, AllPairs, Contains, Option, Some, None, option_map, arith, refl, sym, subst, ap, ◌∙◌, inl, inr, append_assoc, append-nil}
+use Rattle.std.proofs.Common.{◌≡◌, ◌≢◌, ℕ, ◌+◌, ◌<◌, ◌≤◌, true, false, List, [], ◌∷◌, ◌++◌, length, get_or, map, flat_map, All, AllPairs, Contains, Option, Some, None, option_map, arith, refl, sym, subst, ap, ◌∙◌, inl, inr, append_assoc, append-nil}
 use Rattle.std.specs.Prelude.{codes}
-use Rattle.std.specs.List.{list_any}
 use Rattle.std.proofs.lemmas.List.{get_or_append_left, get_or_at, length-append, length_push}
-use Rattle.std.proofs.lemmas.List.Elements.{All-contains, All-from_get_or, All-head, All-nil, All-push, All-tail, All-weaker, Contains-append_left, Contains-get_or, Contains-push}
+use Rattle.std.proofs.lemmas.List.Elements.{All-head, All-push, All-tail, All-weaker, Contains-append_left, Contains-get_or, Contains-push}
 use Rattle.freq_range.proofs.Members.{Contains-cases, Contains-head, Contains-nothing}
 use Rattle.freq_range.specs.Valid.{IsValidRule}
 use Rattle.freq_range.specs.declared.rule.Rule.{Rule}
@@ -15,7 +14,7 @@ use Rattle.rule_tables.specs.declared.code.Alpha2.{Alpha2}
 use Rattle.rule_tables.specs.declared.code.Region.{Region}
 use Rattle.rule_tables.specs.declared.domain.Domain.{Domain}
 use Rattle.db_text.specs.Faults.{HasTooMany, IsContradicted}
-use Rattle.db_text.specs.Forms.{Form, Names, block_of, is_of_code, named_wmm, rules_of, same_code, with_named, wmm_of}
+use Rattle.db_text.specs.Forms.{Form, Names, block_of, is_of_code, named_wmm, rules_of, wmm_of}
 use Rattle.db_text.specs.Forms.Block.{OfCountries}
 use Rattle.db_text.specs.Forms.Form.{Country, RuleLine}
 use Rattle.db_text.specs.Printed.{country_line, country_lines, name_among, rule_line}
@@ -116,7 +115,7 @@ rule_step above forms ws code done lines r are ready few =
           (joined (codes "\t") (printed_rule r name) [] (squeezed_rule r name) 1 200 201 (record { plain = refl; solid = refl; short = omega arith }) (prints_rule r name ready.valid ready.resolved.named) (omega arith))
           (omega arith) is
           (good_rule forms (squeezed_rule r name) (bare_rule r) name (code ∷ []) are.block is (has_wmm forms (squeezed_rule r name) (bare_rule r) name is there.there)
-              (few_rules forms (squeezed_rule r name) (bare_rule r) name (code ∷ []) are.block is (not_many forms code done r name rules few)));
+          (few_rules forms (squeezed_rule r name) (bare_rule r) name (code ∷ []) are.block is (not_many forms code done r name rules few)));
       block = are.block;
       rules = rules;
       others = λ other apart. rw (not_open other code forms are.block apart) (are.others other apart);
@@ -186,7 +185,7 @@ country_start above done lines forms d are is fresh = record {
   fine = fine_line lines forms (country_line d) (codes "country" ++ codes_text (d.alpha2 ∷ []) ++ codes ":" ++ region_name d.region) (Country (d.alpha2 ∷ []) d.region) 20 are.fine
       (country_prints d is.code) (omega arith) (country_is d is.code)
       (good_header forms (codes "country" ++ codes_text (d.alpha2 ∷ []) ++ codes ":" ++ region_name d.region) (d.alpha2 ∷ []) d.region (country_is d is.code)
-          (uncontradicted above done lines forms d are fresh));
+      (uncontradicted above done lines forms d are fresh));
   block = refl;
   rules = rules_of-unnamed forms d.alpha2 (unnamed_code above done lines forms d are fresh);
   others = λ other apart. refl;
@@ -201,7 +200,7 @@ country_step above ws done lines forms d are ready fresh =
     let top = Country (d.alpha2 ∷ []) d.region ∷ forms in
     let few = ready.is.rules.few in
     let all = ruled_all d.rules [] top top ws d.alpha2 (country_line d ∷ lines) (country_start above done lines forms d are ready.is fresh) (printable_along above top ws d.rules are.wmms ready.rules)
-        (omega (arith, few)) in
+    (omega (arith, few)) in
     let after = all.0 in
     let ruled = all.1 in (
       after,
@@ -246,6 +245,8 @@ country_all (d ∷ rest) done above ws lines forms are ready ascending =
     let one = country_step above ws done lines forms d are (All-head (IsReady above ws) d rest ready) (λ c has. earlier_apart done rest d c ascending has) in
     let turned = append_assoc done (d ∷ []) rest in
     let more = country_all rest (done ++ d ∷ []) above ws (behind (country_lines ws d) lines) one.0 one.1 (All-tail (IsReady above ws) d rest ready)
-        (subst (AllPairs (λ x y. key x.alpha2 < key y.alpha2)) (sym turned) ascending) in
-    (more.0, subst (λ ls. ArePrinted above (done ++ d ∷ rest) ls more.0) (sym (behind-append (country_lines ws d) (flat_map (country_lines ws) rest) lines))
-        (subst (λ ds. ArePrinted above ds (behind (flat_map (country_lines ws) rest) (behind (country_lines ws d) lines)) more.0) turned more.1))
+    (subst (AllPairs (λ x y. key x.alpha2 < key y.alpha2)) (sym turned) ascending) in (
+      more.0,
+      subst (λ ls. ArePrinted above (done ++ d ∷ rest) ls more.0) (sym (behind-append (country_lines ws d) (flat_map (country_lines ws) rest) lines))
+          (subst (λ ds. ArePrinted above ds (behind (flat_map (country_lines ws) rest) (behind (country_lines ws d) lines)) more.0) turned more.1),
+    )

@@ -1,5 +1,5 @@
 -- A printed line is accepted below the lines above it.
-use Rattle.std.proofs.Common.{◌≡◌, ◌≢◌, ℕ, ◌+◌, ◌-◌, ◌^◌, ◌<◌, ◌≤◌, ◌==◌, false, List, [], ◌∷◌, ◌++◌, length, All, Contains, reverse, arith, refl, sym, subst, ap, ◌∙◌, append_assoc, inl, inr, lit<}
+use Rattle.std.proofs.Common.{◌≡◌, ℕ, ◌+◌, ◌-◌, ◌^◌, ◌<◌, ◌≤◌, ◌==◌, false, List, [], ◌∷◌, ◌++◌, All, reverse, arith, refl, sym, subst, ap, ◌∙◌, append_assoc, inl, inr, lit<}
 use Rattle.std.specs.Prelude.{codes}
 use Rattle.std.specs.Fmt.{decimal}
 use Rattle.std.specs.List.{slice_split}
@@ -19,9 +19,9 @@ use Rattle.db_text.specs.declared.form.Item.TheVariants.{VoC, ViC, BeC, BkC, VoA
 use Rattle.db_text.specs.Faults.{AreAccepted}
 use Rattle.db_text.specs.Forms.{Form, IsForm}
 use Rattle.db_text.specs.Printed.{country_line, item_line, region_part, text_of_lines, wmm_name}
-use Rattle.db_text.specs.Spelling.{AreCodes, IsDigit, IsHeader, IsItemLine, IsName, IsNumber, IsWmmHeader, ItemText, codes_text, item_name, item_text, region_name, value_of_digits}
+use Rattle.db_text.specs.Spelling.{IsHeader, IsItemLine, IsWmmHeader, ItemText, codes_text, item_name, item_text, region_name}
 use Rattle.db_text.proofs.GoodLines.{IsRight}
-use Rattle.db_text.proofs.PlainLines.{IsSolid, Prints, bare_plain, is_plain, joined, one_line, prints_digits, prints_solid, utf8_plain}
+use Rattle.db_text.proofs.PlainLines.{IsSolid, Prints, bare_plain, joined, one_line, prints_digits, prints_solid, utf8_plain}
 use Rattle.db_text.proofs.PrintedDigits.{decimal_digits, decimal_number, decimal_short, decimal_value}
 use Rattle.db_text.proofs.PrintedRuleLines.{wmm_name-is, wmm_name-prints}
 use Rattle.db_text.proofs.WholeLine.{readable_good}
@@ -49,7 +49,7 @@ fine_line lines forms line squeezed form n fine prints few is right =
       accepted = (
         fine.accepted,
         readable_good forms line form (record { short = omega (arith, short, few); utf8 = utf8_plain line squeezed n prints })
-        (subst (λ l. IsForm l form) (sym same) is) (subst (IsRight forms) (sym same) right),
+            (subst (λ l. IsForm l form) (sym same) is) (subst (IsRight forms) (sym same) right),
       );
       each = All-cons IsOneLine line lines (one_line line squeezed n prints) fine.each;
     }
@@ -184,7 +184,7 @@ pub country_prints : (d : Domain) → IsCode d.alpha2 → Prints (country_line d
 unfolding country_line
 country_prints d is =
     let s1 = joined (codes "country ") (d.alpha2.a ∷ d.alpha2.b ∷ []) (codes "country") (d.alpha2.a ∷ d.alpha2.b ∷ []) 8 2 10 (record { plain = refl; solid = refl; short = omega arith })
-        (prints_code d.alpha2 is) (omega arith) in
+    (prints_code d.alpha2 is) (omega arith) in
     let s2 = joined _ (codes ":") _ (codes ":") 10 1 11 s1 (record { plain = refl; solid = refl; short = omega arith }) (omega arith) in
     joined _ (region_part (region_name d.region)) _ (region_name d.region) 11 9 20 s2 (prints_region d.region) (omega arith)
 

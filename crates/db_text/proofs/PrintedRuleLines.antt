@@ -1,9 +1,8 @@
 -- The printed line of a rule is the line of that rule.
-use Rattle.std.proofs.Common.{◌≡◌, ℕ, ◌+◌, ◌/◌, ◌^◌, ◌<◌, ◌≤◌, List, [], ◌∷◌, ◌++◌, length, All, Option, Some, None, arith, refl, sym, subst, ap, ◌∙◌, append_assoc, inl, inr}
+use Rattle.std.proofs.Common.{◌≡◌, ℕ, ◌/◌, ◌^◌, ◌<◌, ◌≤◌, List, [], ◌∷◌, ◌++◌, length, All, Option, None, arith, refl, sym, subst, append_assoc, inl, inr}
 use Rattle.std.specs.Prelude.{codes}
 use Rattle.std.specs.Fmt.{decimal}
-use Rattle.std.proofs.lemmas.List.Elements.{All-append, All-cons, All-weaker}
-use Rattle.std.proofs.lemmas.List.{length-append}
+use Rattle.std.proofs.lemmas.List.Elements.{All-cons, All-weaker}
 use Rattle.freq_range.specs.Valid.{IsValidRule}
 use Rattle.freq_range.specs.declared.rule.Rule.{Rule}
 use Rattle.db_text.specs.Printed.{wmm_name}
@@ -13,7 +12,7 @@ use Rattle.db_text.specs.Spelling.{Decimal, IsDecimal, IsDigit, IsName, IsNameBy
 use Rattle.db_text.specs.Spelling.Gain.{NoGain}
 use Rattle.db_text.specs.Spelling.Power.{Dbm}
 use Rattle.db_text.proofs.PlainLines.{Prints, joined, prints_digits}
-use Rattle.db_text.proofs.PrintedDigits.{dbm_decimal, dbm_value, decimal_digits, decimal_short, mhz_decimal, mhz_value, short_thousandths}
+use Rattle.db_text.proofs.PrintedDigits.{dbm_decimal, dbm_value, decimal_digits, decimal_short, mhz_decimal, mhz_value}
 use Rattle.db_text.proofs.PrintedWords.{IsNamed, printed_are_words, printed_flags, printed_kept, printed_names, printed_words, prints_words}
 
 -- ---- names
@@ -96,14 +95,14 @@ prints_rule rule name valid named =
     let e2 = valid.wide_enough in
     let e3 = valid.end_fits in
     let pieces = rule_pieces (mhz_text rule.start_khz) (mhz_text rule.end_khz) (mhz_text rule.max_bw_khz) (dbm_text rule.eirp_mbm) (flags_part rule.flags ++ name_part name)
-        (decimal_text (mhz_of rule.start_khz)) (decimal_text (mhz_of rule.end_khz)) (decimal_text (mhz_of rule.max_bw_khz)) (decimal_text (dbm_of rule.eirp_mbm)) (words_text (printed_words rule.flags name))
-        (prints_mhz rule.start_khz (omega (arith, e1, e3))) (prints_mhz rule.end_khz e3) (prints_mhz rule.max_bw_khz (omega (arith, e1, e2, e3)))
-        (prints_dbm rule.eirp_mbm valid.power_fits) (prints_words rule.flags name named) in
+    (decimal_text (mhz_of rule.start_khz)) (decimal_text (mhz_of rule.end_khz)) (decimal_text (mhz_of rule.max_bw_khz)) (decimal_text (dbm_of rule.eirp_mbm)) (words_text (printed_words rule.flags name))
+    (prints_mhz rule.start_khz (omega (arith, e1, e3))) (prints_mhz rule.end_khz e3) (prints_mhz rule.max_bw_khz (omega (arith, e1, e2, e3)))
+    (prints_dbm rule.eirp_mbm valid.power_fits) (prints_words rule.flags name named) in
     same_prints 200
     (append_assoc (codes "(" ++ mhz_text rule.start_khz ++ codes " - " ++ mhz_text rule.end_khz ++ codes " @ " ++ mhz_text rule.max_bw_khz ++ codes "), (" ++ dbm_text rule.eirp_mbm ++ codes ")")
-        (flags_part rule.flags) (name_part name))
+    (flags_part rule.flags) (name_part name))
     (regroup (codes "(" ++ decimal_text (mhz_of rule.start_khz) ++ codes "-" ++ decimal_text (mhz_of rule.end_khz) ++ codes "@" ++ decimal_text (mhz_of rule.max_bw_khz))
-        (decimal_text (dbm_of rule.eirp_mbm)) (words_text (printed_words rule.flags name)))
+    (decimal_text (dbm_of rule.eirp_mbm)) (words_text (printed_words rule.flags name)))
     pieces
 
 -- the rule without its WMM rule, as its line says it

@@ -1,14 +1,14 @@
 -- A printed text stands for its database.
-use Rattle.std.proofs.Common.{◌≡◌, ◌≢◌, ℕ, ◌+◌, ◌^◌, ◌<◌, ◌≤◌, ◌==◌, List, [], ◌∷◌, ◌++◌, length, get_or, flat_map, reverse, All, AllPairs, Contains, Option, Some, None, option_map, arith, refl, sym, subst, ap, ◌∙◌, inl, inr, append-nil}
+use Rattle.std.proofs.Common.{◌≡◌, ℕ, ◌^◌, ◌<◌, List, [], ◌∷◌, ◌++◌, length, get_or, flat_map, reverse, All, Contains, Option, Some, None, option_map, arith, refl, sym, subst, ap, ◌∙◌, inl, inr, append-nil}
 use Rattle.std.proofs.lemmas.List.{get_or_append_left, get_or_push, length-append, reverse-append, reverse-reverse}
-use Rattle.std.proofs.lemmas.List.Elements.{All-contains, All-nil, All-weaker, Contains-get_or}
+use Rattle.std.proofs.lemmas.List.Elements.{All-contains, All-nil, Contains-get_or}
 use Rattle.std.proofs.lemmas.Option.{none-some, same_Some}
 use Rattle.std.specs.List.{position_or_len}
-use Rattle.freq_range.proofs.Members.{Contains-cases, Contains-reverse}
-use Rattle.freq_range.specs.Valid.{IsValidRule, IsValidWmm}
+use Rattle.freq_range.proofs.Members.{Contains-reverse}
+use Rattle.freq_range.specs.Valid.{IsValidRule}
 use Rattle.freq_range.specs.declared.rule.Rule.{Rule}
 use Rattle.freq_range.specs.declared.wmm.Wmm.{Wmm}
-use Rattle.rule_tables.specs.Databases.{HasCode, IsDb, IsDomain}
+use Rattle.rule_tables.specs.Databases.{IsDb, IsDomain}
 use Rattle.rule_tables.specs.Domains.{AreDistinct}
 use Rattle.rule_tables.specs.FileFormat.{DropsRepeats}
 use Rattle.rule_tables.specs.declared.code.Alpha2.{Alpha2}
@@ -17,19 +17,18 @@ use Rattle.rule_tables.specs.declared.domain.Domain.{Domain}
 use Rattle.db_text.specs.declared.fault.TextKind.{TextKind}
 use Rattle.db_text.specs.declared.fault.TextKind.TheVariants.{WmmShort, NoRules}
 use Rattle.db_text.specs.Faults.{AreAccepted, IsTextOfRule}
-use Rattle.db_text.specs.Forms.{Form, Names, named_wmm, rules_of, wmm_of}
+use Rattle.db_text.specs.Forms.{Form, Names, rules_of, wmm_of}
 use Rattle.db_text.specs.Forms.Form.{Country, Empty}
-use Rattle.db_text.specs.Lines.{bare, lines_of}
-use Rattle.db_text.specs.Printed.{LackTimes, country_lines, first_uses, name_among, printed, printed_lines, same_wmm, wmm_in, wmm_lines_from, wmm_name}
+use Rattle.db_text.specs.Printed.{LackTimes, country_lines, first_uses, name_among, printed, printed_lines, same_wmm, wmm_in, wmm_lines_from}
 use Rattle.db_text.specs.PrintedRules.{printed_rule}
 use Rattle.db_text.specs.Spelling.{IsRuleLine}
-use Rattle.db_text.specs.TextOf.{IsDomainOf, IsShortAt, StandsFor, TextOf}
+use Rattle.db_text.specs.TextOf.{IsShortAt, StandsFor, TextOf}
 use Rattle.db_text.proofs.BareRules.{bare-rule}
 use Rattle.db_text.proofs.EmptyLines.{empty_good}
 use Rattle.db_text.proofs.FewDomains.{few_uses}
 use Rattle.db_text.proofs.FormLaws.{Names-cases, Names-later, form_at_contains}
 use Rattle.db_text.proofs.PlainLines.{bare_plain, utf8_plain}
-use Rattle.db_text.proofs.PrintedCountries.{ArePrinted, HasRules, IsPrintable, IsReady, IsResolved, country_all}
+use Rattle.db_text.proofs.PrintedCountries.{ArePrinted, HasRules, IsReady, IsResolved, country_all}
 use Rattle.db_text.proofs.PrintedLines.{AreFine, IsOneLine, all_behind, behind, behind-append, behind-is, fine_line, lines_back}
 use Rattle.db_text.proofs.PrintedRuleLines.{bare_rule, printed_rule_line, prints_rule, squeezed_rule, wmm_name-is, wmm_name-prints}
 use Rattle.db_text.proofs.PrintedWmm.{AreNamed, named_all, named_none}
@@ -196,4 +195,4 @@ printed_rule_reads rule valid no_time no_wmm =
     let short = prints.short in
     subst (IsTextOfRule (printed_rule rule None)) (same_rule rule no_wmm)
     (bare-rule (printed_rule rule None) (bare_rule rule) (record { short = omega (arith, short); utf8 = utf8_plain (printed_rule rule None) (squeezed_rule rule None) 200 prints })
-        (record { is = subst (λ line. IsRuleLine line (bare_rule rule) None) (sym squeezed) is }))
+    (record { is = subst (λ line. IsRuleLine line (bare_rule rule) None) (sym squeezed) is }))

@@ -1,7 +1,6 @@
 -- The words behind a printed power: the flags that are set, and the name of a WMM rule.
-use Rattle.std.proofs.Common.{◌≡◌, ℕ, ◌+◌, ◌<◌, ◌≤◌, Bool, true, false, List, [], ◌∷◌, ◌++◌, length, flat_map, All, Option, Some, None, arith, refl, sym, subst, ap, ◌∙◌, append-nil, append_assoc}
+use Rattle.std.proofs.Common.{◌≡◌, ℕ, ◌+◌, ◌≤◌, Bool, true, false, List, [], ◌∷◌, ◌++◌, length, All, Option, Some, None, arith, refl, sym, subst, ap, ◌∙◌, append-nil}
 use Rattle.std.specs.Prelude.{codes, fold}
-use Rattle.std.proofs.lemmas.List.{length-append}
 use Rattle.std.proofs.lemmas.List.Concat.{flat_map-append}
 use Rattle.std.proofs.lemmas.List.Elements.{All-append, All-cons, All-nil}
 use Rattle.std.proofs.lemmas.List.Sums.{fold-append}
@@ -9,7 +8,7 @@ use Rattle.freq_range.specs.declared.flags.RuleFlags.{RuleFlags}
 use Rattle.db_text.specs.declared.form.Flag.{Flag}
 use Rattle.db_text.specs.declared.form.Flag.TheVariants.{NoOfdm, NoOutdoor, Dfs, NoIr, AutoBw}
 use Rattle.db_text.specs.PrintedRules.{flag_part, flags_part, name_part}
-use Rattle.db_text.specs.Spelling.{AreWords, IsKept, IsKeptWord, IsName, IsWord, Word, flags_of, list_of, names_in, no_flags, with_word, word_text, words_text}
+use Rattle.db_text.specs.Spelling.{AreWords, IsKeptWord, IsName, IsWord, Word, flags_of, list_of, names_in, no_flags, with_word, word_text, words_text}
 use Rattle.db_text.specs.Spelling.Word.{OfFlag, OfName}
 use Rattle.db_text.proofs.PlainLines.{Prints, joined}
 
@@ -74,13 +73,13 @@ gathered-flags f =
     let e = word_if f.no_ir NoIr in
     gathered-append no_flags (a ++ b ++ c ++ d) e
     ∙ ap (λ x. gathered x e) (
-      gathered-append no_flags (a ++ b ++ c) d
-      ∙ ap (λ x. gathered x d) (
-        gathered-append no_flags (a ++ b) c
-        ∙ ap (λ x. gathered x c) (gathered-append no_flags a b ∙ ap (λ x. gathered x b) (flags_step1 f.no_ofdm) ∙ flags_step2 f.no_ofdm f.no_outdoor)
-        ∙ flags_step3 f.no_ofdm f.no_outdoor f.dfs
-      )
-      ∙ flags_step4 f.no_ofdm f.no_outdoor f.dfs f.auto_bw
+    gathered-append no_flags (a ++ b ++ c) d
+    ∙ ap (λ x. gathered x d) (
+    gathered-append no_flags (a ++ b) c
+    ∙ ap (λ x. gathered x c) (gathered-append no_flags a b ∙ ap (λ x. gathered x b) (flags_step1 f.no_ofdm) ∙ flags_step2 f.no_ofdm f.no_outdoor)
+    ∙ flags_step3 f.no_ofdm f.no_outdoor f.dfs
+    )
+    ∙ flags_step4 f.no_ofdm f.no_outdoor f.dfs f.auto_bw
     )
     ∙ flags_step5 f.no_ofdm f.no_outdoor f.dfs f.auto_bw f.no_ir
 
@@ -138,8 +137,8 @@ each_flag P f p q r s t =
     let e = word_if f.no_ir NoIr in
     All-append P (a ++ b ++ c ++ d) e
     (All-append P (a ++ b ++ c) d
-        (All-append P (a ++ b) c (All-append P a b (each_if P f.no_ofdm NoOfdm p) (each_if P f.no_outdoor NoOutdoor q)) (each_if P f.dfs Dfs r))
-        (each_if P f.auto_bw AutoBw s))
+    (All-append P (a ++ b) c (All-append P a b (each_if P f.no_ofdm NoOfdm p) (each_if P f.no_outdoor NoOutdoor q)) (each_if P f.dfs Dfs r))
+    (each_if P f.auto_bw AutoBw s))
     (each_if P f.no_ir NoIr t)
 
 -- a name that can be printed

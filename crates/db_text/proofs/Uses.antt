@@ -1,12 +1,11 @@
 -- The WMM rules in use are those of the rules, and valid.
-use Rattle.std.proofs.Common.{◌≡◌, ◌≢◌, ℕ, ◌<◌, ◌≤◌, ◌⊎◌, ◌++◌, ◌*◌, ◌+◌, Bool, true, false, not, List, [], ◌∷◌, length, get_or, filter, flat_map, All, Contains, Option, Some, None, IfSome, option_to_list, arith, refl, sym, subst, ap, ◌∙◌, inl, inr}
-use Rattle.std.proofs.lemmas.Bool.{cases_lt}
+use Rattle.std.proofs.Common.{◌≡◌, ℕ, ◌<◌, ◌≤◌, ◌*◌, Bool, true, false, not, List, [], ◌∷◌, length, get_or, filter, flat_map, All, Contains, Option, Some, None, IfSome, option_to_list, arith, refl, sym, subst, ap, ◌∙◌, inl, inr}
 use Rattle.std.proofs.lemmas.List.{length-append}
-use Rattle.std.proofs.lemmas.List.Elements.{All-append, All-cons, All-contains, All-filter, All-from_get_or, All-head, All-nil, All-tail, Contains-append_left, Contains-append_right, Contains-get_or}
+use Rattle.std.proofs.lemmas.List.Elements.{All-append, All-cons, All-filter, All-head, All-nil, All-tail, Contains-append_left, Contains-append_right}
 use Rattle.std.proofs.lemmas.List.Sums.{count_by-le-length, length-filter, passes_at_first}
-use Rattle.std.specs.List.{position_or_len, count_by}
+use Rattle.std.specs.List.{position_or_len}
 use Rattle.freq_range.proofs.Members.{Contains-cases, Contains-head, Contains-later, Contains-nothing}
-use Rattle.freq_range.specs.Valid.{IsValidRule, IsValidWmm}
+use Rattle.freq_range.specs.Valid.{IsValidWmm}
 use Rattle.freq_range.specs.declared.rule.Rule.{Rule}
 use Rattle.freq_range.specs.declared.wmm.Wmm.{Wmm}
 use Rattle.rule_tables.specs.Databases.{IsDb, IsDomain}
@@ -35,8 +34,8 @@ pub valid_uses : (ds : List Domain) → IsDb ds → All IsValidWmm (first_uses (
 valid_uses ds db =
     all_first IsValidWmm (wmm_in ds)
     (all_flat IsValidWmm (λ (d : Domain). wmm_in_rules d.rules) ds (λ j d less.
-        let one = db.each j d less in
-        all_flat IsValidWmm wmm_in_rule (get_or ds j d).rules (λ k r below. all_option IsValidWmm (get_or (get_or ds j d).rules k r).wmm (one.rules.each k r below).wmm)))
+    let one = db.each j d less in
+    all_flat IsValidWmm wmm_in_rule (get_or ds j d).rules (λ k r below. all_option IsValidWmm (get_or (get_or ds j d).rules k r).wmm (one.rules.each k r below).wmm)))
 
 -- ---- each that is used is there
 

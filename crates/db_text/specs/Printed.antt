@@ -1,6 +1,6 @@
 -- The one text of a database: the WMM rules in use, in order of their first use, and then the countries, each with its
 -- rules.
-use Rattle.std.specs.Prelude.{◌≡◌, ℕ, ◌+◌, ◌-◌, ◌^◌, ◌<◌, Bool, not, nat_eq, List, [], ◌∷◌, ◌++◌, length, map, flat_map, filter, All, Option, Some, None, option_map, option_to_list, slice_index_or, codes, decimal}
+use Rattle.std.specs.Prelude.{◌≡◌, ℕ, ◌+◌, ◌-◌, ◌^◌, ◌<◌, Bool, not, nat_eq, List, [], ◌∷◌, ◌++◌, length, map, flat_map, filter, All, option_map, option_to_list, slice_index_or, codes, decimal}
 use Rattle.std.specs.Cmp.Lexicographic.{pointwise}
 use Rattle.std.specs.List.{position_or_len}
 use Rattle.freq_range.specs.First.{IsFirst}
@@ -131,7 +131,7 @@ pub record IsFirstTime (ds : List Domain) (country : Alpha2) (k : ℕ) : Type 0 
   pub code : (d : Domain) → (slice_index_or ds place d).alpha2 ≡ country
   pub rule : (d : Domain) → IsFirst (HasTimeAt (slice_index_or ds place d).rules) k
 
--- why a database has no text
+-- why a database has no text; memory is asked for only where each rule can be printed
 abbrev pub IsPrintFault : List Domain → PrintFault → Type 0
 IsPrintFault ds (CacTime country k) = IsFirstTime ds country k
-IsPrintFault ds OutOfMemory = Unit {0}
+IsPrintFault ds OutOfMemory = LackTimes ds

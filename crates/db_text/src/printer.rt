@@ -2,11 +2,14 @@
 
 ghost use Rattle.std.specs.Prelude.{◌≡◌, ◌++◌, IfOk, MatchOption, MatchResult, OnOk, flat_map, map, option_map};
 ghost use Rattle.freq_range.specs.First.{IsFirst};
-ghost use Rattle.db_text.specs.Naming.{AreNumbered};
+ghost use Rattle.db_text.specs.Naming.{IsNumbered};
 ghost use Rattle.db_text.specs.Printed.{HasTimeAt, IsFirstTime, IsPrintFault, LackTimes, LacksTimes, country_line, country_lines, ended, name_among, printed, region_part, rule_line, text_of_lines};
 ghost use Rattle.db_text.specs.PrintedRules.{name_part};
 ghost use Rattle.db_text.specs.Spelling.{region_name};
 ghost use Rattle.db_text.specs.TextOf.{TextOf};
+
+#[cfg(test)]
+mod tests;
 
 use crate::print_fault::PrintFault;
 use crate::rule_printer::put_rule_part;
@@ -68,7 +71,7 @@ fn put_header(out: &mut Bytes, domain: &Domain) -> Result<(), OutOfMemory>
 
 /// Appends the name of a rule's WMM rule, if it has one.
 fn put_name(out: &mut Bytes, names: &WmmNames, wmm: &Option<Wmm>) -> Result<(), OutOfMemory>
-    requires { AreNumbered names.now.rules.items names.now.numbers }
+    requires { IsNumbered names.now }
     ensures { OnOk result (out.new ≡ out.old ++ name_part (option_map (name_among names.now.rules.items) wmm.now)) }
 {
     if let Some(wmm) = wmm {
@@ -81,7 +84,7 @@ fn put_name(out: &mut Bytes, names: &WmmNames, wmm: &Option<Wmm>) -> Result<(), 
 /// Appends the line of a rule.
 #[tactic(auto, unfolding(crate::specs::Printed::rule_line))]
 fn put_rule(out: &mut Bytes, names: &WmmNames, rule: &Rule) -> Result<(), OutOfMemory>
-    requires { AreNumbered names.now.rules.items names.now.numbers }
+    requires { IsNumbered names.now }
     ensures { OnOk result (out.new ≡ out.old ++ ended (rule_line names.now.rules.items rule.now)) }
 {
     out.push(b'\t')?;
@@ -93,7 +96,7 @@ fn put_rule(out: &mut Bytes, names: &WmmNames, rule: &Rule) -> Result<(), OutOfM
 
 /// Appends the lines of rules.
 fn put_rules(out: &mut Bytes, names: &WmmNames, rules: &[Rule]) -> Result<(), OutOfMemory>
-    requires { AreNumbered names.now.rules.items names.now.numbers }
+    requires { IsNumbered names.now }
     ensures { OnOk result (out.new ≡ out.old ++ text_of_lines (map (rule_line names.now.rules.items) rules.now)) }
 {
     for rule in rules {
@@ -104,7 +107,7 @@ fn put_rules(out: &mut Bytes, names: &WmmNames, rules: &[Rule]) -> Result<(), Ou
 
 /// Appends the lines of countries.
 fn put_countries(out: &mut Bytes, names: &WmmNames, domains: &[Domain]) -> Result<(), OutOfMemory>
-    requires { AreNumbered names.now.rules.items names.now.numbers }
+    requires { IsNumbered names.now }
     ensures { OnOk result (out.new ≡ out.old ++ text_of_lines (flat_map (country_lines names.now.rules.items) domains.now)) }
 {
     for domain in domains {
@@ -131,7 +134,7 @@ fn text_of(alloc: Global, db: &Db) -> Result<Bytes, OutOfMemory>
 /// it as this database.
 ///
 /// Otherwise the fault is `CacTime` with the first rule that has a check time, countries and rules
-/// in order, or want of memory.
+/// in order, or where no rule has one, want of memory.
 pub fn print(alloc: Global, db: &Db) -> Result<Bytes, PrintFault>
     ensures text { IfOk result (λ text. text ≡ printed db.now) }
     ensures reads { IfOk result (λ text. TextOf text db.now) }

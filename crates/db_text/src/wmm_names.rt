@@ -1,9 +1,8 @@
 //! The WMM rules that a database uses, and their names.
 
-ghost use Rattle.std.specs.Prelude.{◌≡◌, [], All, IfOk, OnOk, flat_map, fold};
+ghost use Rattle.std.specs.Prelude.{◌≡◌, [], IfOk, OnOk, flat_map};
 ghost use Rattle.std.specs.List.{position_or_len};
-ghost use Rattle.freq_range.specs.Valid.{IsValidRule};
-ghost use Rattle.db_text.specs.Naming.{AreNumbered, all_noted, noted};
+ghost use Rattle.db_text.specs.Naming.{IsNumbered, all_noted, noted};
 ghost use Rattle.db_text.specs.Printed.{entry_numbers, first_uses, same_wmm, wmm_in, wmm_in_rule, wmm_in_rules, wmm_numbers};
 
 use freq_range::{Rule, Wmm, WmmEntry};
@@ -59,7 +58,7 @@ impl WmmNames {
     /// No WMM rules.
     fn new(alloc: Global) -> WmmNames
         ensures rules { result.rules.items ≡ [] }
-        ensures numbered { AreNumbered result.rules.items result.numbers }
+        ensures numbered { IsNumbered result }
     {
         WmmNames {
             rules: Vec::new(alloc),
@@ -69,9 +68,9 @@ impl WmmNames {
 
     /// Adds a WMM rule, unless it is there.
     fn add(&mut self, wmm: &Wmm) -> Result<(), OutOfMemory>
-        requires { AreNumbered self.old.rules.items self.old.numbers }
+        requires { IsNumbered self.old }
         ensures rules { OnOk result (self.new.rules.items ≡ noted self.old.rules.items wmm.now) }
-        ensures numbered { OnOk result (AreNumbered self.new.rules.items self.new.numbers) }
+        ensures numbered { OnOk result (IsNumbered self.new) }
     {
         let key = key_of(wmm);
         if self.numbers.contains_key(&key) {
@@ -84,7 +83,7 @@ impl WmmNames {
 
     /// The place of a WMM rule, or the number of WMM rules where it isn't there.
     pub fn place_of(&self, wmm: &Wmm) -> usize
-        requires { AreNumbered self.now.rules.items self.now.numbers }
+        requires { IsNumbered self.now }
         ensures { result ≡ position_or_len (same_wmm wmm.now) self.now.rules.items }
     {
         match self.numbers.get(&key_of(wmm)) {
@@ -96,9 +95,9 @@ impl WmmNames {
 
 /// Adds the WMM rule of a rule, if it has one.
 fn add_rule(names: &mut WmmNames, rule: &Rule) -> Result<(), OutOfMemory>
-    requires { AreNumbered names.old.rules.items names.old.numbers }
+    requires { IsNumbered names.old }
     ensures rules { OnOk result (names.new.rules.items ≡ all_noted names.old.rules.items (wmm_in_rule rule.now)) }
-    ensures numbered { OnOk result (AreNumbered names.new.rules.items names.new.numbers) }
+    ensures numbered { OnOk result (IsNumbered names.new) }
 {
     if let Some(wmm) = &rule.wmm {
         names.add(wmm)?;
@@ -108,9 +107,9 @@ fn add_rule(names: &mut WmmNames, rule: &Rule) -> Result<(), OutOfMemory>
 
 /// Adds the WMM rules of the rules.
 fn add_rules(names: &mut WmmNames, rules: &[Rule]) -> Result<(), OutOfMemory>
-    requires { AreNumbered names.old.rules.items names.old.numbers }
+    requires { IsNumbered names.old }
     ensures rules { OnOk result (names.new.rules.items ≡ all_noted names.old.rules.items (wmm_in_rules rules.now)) }
-    ensures numbered { OnOk result (AreNumbered names.new.rules.items names.new.numbers) }
+    ensures numbered { OnOk result (IsNumbered names.new) }
 {
     for rule in rules {
         add_rule(names, rule)?;
@@ -121,7 +120,7 @@ fn add_rules(names: &mut WmmNames, rules: &[Rule]) -> Result<(), OutOfMemory>
 /// The WMM rules of all domains.
 pub fn wmm_names(alloc: Global, domains: &[Domain]) -> Result<WmmNames, OutOfMemory>
     ensures rules { IfOk result (λ names. names.rules.items ≡ first_uses (wmm_in domains.now)) }
-    ensures numbered { IfOk result (λ names. AreNumbered names.rules.items names.numbers) }
+    ensures numbered { IfOk result IsNumbered }
 {
     let mut names = WmmNames::new(alloc);
     for domain in domains {

@@ -1,4 +1,4 @@
-use Rattle.std.proofs.Common.{◌≡◌, ℕ, ◌<◌, slice_index_or}
+use Rattle.std.proofs.Common.{ℕ, ◌<◌, slice_index_or}
 use Rattle.rule_tables.specs.declared.domain.Domain.{Domain}
 use Rattle.db_text.specs.Printed.{LacksTimes}
 use Rattle.db_text.proofs.printer.first_time.Given as goal

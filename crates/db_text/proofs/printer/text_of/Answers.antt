@@ -1,9 +1,7 @@
-use Rattle.std.proofs.Common.{◌≡◌, ◌++◌, ◌∙◌, List, ℕ, All, ap, sym, subst}
+use Rattle.std.proofs.Common.{sym}
 use Rattle.std.proofs.lemmas.List.Concat.{flat_map-append}
 use Rattle.std.specs.Prelude.{flat_map}
-use Rattle.freq_range.specs.Valid.{IsValidWmm}
-use Rattle.rule_tables.specs.Databases.{IsDb}
-use Rattle.db_text.specs.Printed.{country_lines, ended, first_uses, printed, text_of_lines, wmm_in, wmm_lines_from}
+use Rattle.db_text.specs.Printed.{country_lines, ended, first_uses, printed, wmm_in, wmm_lines_from}
 use Rattle.db_text.proofs.Uses.{valid_uses}
 use Rattle.db_text.proofs.printer.text_of.Goals as goal
 

@@ -1,6 +1,6 @@
-use Rattle.std.proofs.Common.{◌≡◌, ◌∙◌, List, ℕ, None, sym, subst, append-nil}
+use Rattle.std.proofs.Common.{List, ℕ, subst, append-nil}
 use Rattle.db_text.specs.Faults.{IsTextOfRule}
-use Rattle.db_text.specs.PrintedRules.{printed_rule, rule_part}
+use Rattle.db_text.specs.PrintedRules.{rule_part}
 use Rattle.db_text.proofs.PrintedText.{printed_rule_reads}
 use Rattle.db_text.proofs.rule_printer.print_rule.Goals as goal
 

@@ -1,10 +1,10 @@
 use Rattle.std.proofs.Common.{◌≡◌, drop}
-use Rattle.db_text.specs.Naming.{AreNumbered, all_noted}
+use Rattle.db_text.specs.Naming.{IsNumbered, all_noted}
 use Rattle.db_text.specs.Printed.{wmm_in_rules}
 use Rattle.db_text.proofs.wmm_names.add_rules.Given as goal
 
 abbrev pub invariant-loop-rule : goal.invariant-loop-rule
 invariant-loop-rule l = record {
   rules : all_noted l.names.rules.items (wmm_in_rules (drop l.rule-index l.rules)) ≡ all_noted l.initial.names.rules.items (wmm_in_rules l.rules);
-  numbered : AreNumbered l.names.rules.items l.names.numbers;
+  numbered : IsNumbered l.names;
 }

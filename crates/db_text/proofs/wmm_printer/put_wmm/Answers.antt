@@ -11,8 +11,15 @@ pub returns : goal.returns
 unfolding wmm_lines
 returns c =
     rw (
-      c.in_ok-put_item-8.ensures, c.in_ok-put_item-7.ensures, c.in_ok-put_item-6.ensures, c.in_ok-put_item-5.ensures, c.in_ok-put_item-4.ensures, c.in_ok-put_item-3.ensures,
-      c.in_ok-put_item-2.ensures, c.in_ok-put_item.ensures, c.in_ok-put_wmm_header.ensures,
+      c.in_ok-put_item-8.ensures,
+      c.in_ok-put_item-7.ensures,
+      c.in_ok-put_item-6.ensures,
+      c.in_ok-put_item-5.ensures,
+      c.in_ok-put_item-4.ensures,
+      c.in_ok-put_item-3.ensures,
+      c.in_ok-put_item-2.ensures,
+      c.in_ok-put_item.ensures,
+      c.in_ok-put_wmm_header.ensures,
     ) (nine c.args.out.now (ended (codes "wmmrule " ++ wmm_name c.args.number ++ codes ":")) (ended (item_line VoC c.args.wmm.now.vo_c)) (ended (item_line ViC c.args.wmm.now.vi_c))
-        (ended (item_line BeC c.args.wmm.now.be_c)) (ended (item_line BkC c.args.wmm.now.bk_c)) (ended (item_line VoAp c.args.wmm.now.vo_ap)) (ended (item_line ViAp c.args.wmm.now.vi_ap))
-        (ended (item_line BeAp c.args.wmm.now.be_ap)) (ended (item_line BkAp c.args.wmm.now.bk_ap)))
+    (ended (item_line BeC c.args.wmm.now.be_c)) (ended (item_line BkC c.args.wmm.now.bk_c)) (ended (item_line VoAp c.args.wmm.now.vo_ap)) (ended (item_line ViAp c.args.wmm.now.vi_ap))
+    (ended (item_line BeAp c.args.wmm.now.be_ap)) (ended (item_line BkAp c.args.wmm.now.bk_ap)))

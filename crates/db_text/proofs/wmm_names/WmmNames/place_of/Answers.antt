@@ -12,4 +12,4 @@ pub returns-in-None : goal.returns-in-None
 returns-in-None c =
     let e : c.len.result ≡ length c.args.self.now.rules.items = search rules in
     e ∙ sym (position-none (same_wmm c.args.wmm.now) c.args.self.now.rules.items
-        (sym (c.requires (wmm_numbers c.args.wmm.now)) ∙ rw (← c.key_of.ensures) (sym c.in-None.ensures.value)))
+    (sym (c.requires (wmm_numbers c.args.wmm.now)) ∙ rw (← c.key_of.ensures) (sym c.in-None.ensures.value)))
