@@ -44,3 +44,17 @@ most_either P Q (Some one) (Some most) is both = record {
     | inr q ↦ both.none_above m (inr q)
   ];
 }
+
+-- a number is the greatest of itself
+pub most_alone : (one : Option ℕ) (Q : ℕ → Type 0) → ((n : ℕ) → Q n → ⊥) → IsMost (λ n. (one ≡ Some n) ⊎ Q n) one
+most_alone None Q none = λ n either. elim either [
+  | inl same ↦ none-some n same
+  | inr q ↦ none n q
+]
+most_alone (Some one) Q none = record {
+  holds = inl refl;
+  none_above = λ m either. elim either [
+    | inl same ↦ let same' : one ≡ m = same_Some one m same in omega arith
+    | inr q ↦ absurd (none m q)
+  ];
+}

@@ -1,19 +1,22 @@
 -- A book, after one more call.
-use Rattle.std.proofs.Common.{◌≡◌, ℕ, suc, ◌+◌, ◌<◌, List, [], ◌∷◌, length, map, set, get_or, All, Option, Some, None, arith, refl, sym, ap, subst, ◌∙◌, inl, inr}
+use Rattle.std.proofs.Common.{◌≡◌, ℕ, suc, ◌+◌, ◌<◌, ◌≤◌, List, [], ◌∷◌, length, map, set, get_or, All, Any, Option, Some, None, false, arith, refl, sym, ap, subst, ◌∙◌, inl, inr}
 use Rattle.std.proofs.lemmas.Bool.{cases_lt}
-use Rattle.std.proofs.lemmas.List.{get_or_past, set-get_or}
+use Rattle.std.proofs.lemmas.List.{get_or_default, get_or_past, set-get_or}
 use Rattle.std.proofs.lemmas.List.Elements.{All-weaker}
+use Rattle.std.proofs.lemmas.Option.{none-some}
 use Rattle.chan_def.specs.declared.definition.ChanDef.{ChanDef}
 use Rattle.dfs_states.specs.Book.{Book}
 use Rattle.dfs_states.specs.Calls.{Call, Advance, Radar, Begin, DropCheck, RegionChanged, now_of}
 use Rattle.dfs_states.specs.Meaning.{IsIdle, IsDue, AreDue}
 use Rattle.dfs_states.specs.StandsFor.{IsCheck, AreChecks, IsPlace, StandsFor}
-use Rattle.dfs_states.specs.Steps.{EachFollows, PlaceFollows, CheckFollows}
+use Rattle.dfs_states.specs.Steps.{EachFollows, PlaceFollows, CheckFollows, IsDone, IsEnded}
 use Rattle.dfs_states.specs.declared.check.Check.{Check}
 use Rattle.dfs_states.specs.declared.place.Place.{Place}
 use Rattle.dfs_states.proofs.Begun.{place_dropped}
+use Rattle.dfs_states.proofs.Most.{most_alone}
+use Rattle.dfs_states.proofs.Places.{place_advanced}
 use Rattle.dfs_states.proofs.Running.{runs_newest}
-use Rattle.dfs_states.proofs.Slots.{check_none, checks_set, checks_same, idle_at_once, idle_dropped}
+use Rattle.dfs_states.proofs.Slots.{check_none, check_runs_on, checks_set, checks_same, idle_at_once, idle_dropped}
 
 same_centres : (old new : List Place) → length new ≡ length old
     → ((k : ℕ) (d : Place) → k < length old → (get_or new k d).khz ≡ (get_or old k d).khz) → map (λ p. p.khz) new ≡ map (λ p. p.khz) old
@@ -64,6 +67,46 @@ pub stands_advance : (book new : Book) (channels : List ℕ) (calls : List Call)
 stands_advance book new channels calls moment stands is_due at follows checks =
     stands_after book new channels calls (Advance moment) (AreChecks book.checks) stands is_due at follows stands.checks
     (checks_advance moment calls book.checks new.checks (is_due, stands.due) checks stands.checks)
+
+-- a moment at which no check ends
+pub stands_waiting : (book new : Book) (channels : List ℕ) (calls : List Call) (moment : ℕ) → StandsFor book channels calls
+    → IsDue calls (Advance moment) → (Any (IsDone moment) book.checks → ⊥) → new.moment ≡ moment → new.places ≡ book.places
+    → new.checks ≡ book.checks → StandsFor new channels (Advance moment ∷ calls)
+stands_waiting book new channels calls moment stands is_due none at places checks =
+    let due : AreDue (Advance moment ∷ calls) = (is_due, stands.due) in
+    record {
+      due = due;
+      moment = at;
+      centres = ap (λ ps. map (λ p. p.khz) ps) places ∙ stands.centres;
+      checks = λ slot.
+          subst (λ cs. IsCheck (Advance moment ∷ calls) slot (get_or cs slot no_check)) (sym checks)
+          (waits slot (get_or book.checks slot no_check) refl due (stands.checks slot));
+      places = subst (λ ps. All (IsPlace (Advance moment ∷ calls)) ps) (sym places)
+          (All-weaker (IsPlace calls) (IsPlace (Advance moment ∷ calls)) (λ p. place due p) book.places stands.places);
+    }
+  where
+    no_check : Option Check
+    no_check = None
+
+    undone : (slot : ℕ) (check : Check) → get_or book.checks slot no_check ≡ Some check → check.end ≤ moment → ⊥
+    undone slot check at done = elim (cases_lt slot (length book.checks)) [
+      | inl below ↦ none (slot, Some check, below, get_or_default book.checks slot (Some check) no_check below ∙ at, done)
+      | inr past ↦ none-some check (sym (get_or_past book.checks slot no_check past) ∙ at)
+    ]
+
+    waits : (slot : ℕ) (o : Option Check) → get_or book.checks slot no_check ≡ o → AreDue (Advance moment ∷ calls) → IsCheck calls slot o
+        → IsCheck (Advance moment ∷ calls) slot o
+    waits slot None at due is = check_none moment calls slot due is
+    waits slot (Some check) at due is = elim (cases_lt moment check.end) [
+      | inl below ↦ check_runs_on moment calls slot check below is
+      | inr done ↦ absurd (undone slot check at done)
+    ]
+
+    place : AreDue (Advance moment ∷ calls) → (p : Place) → IsPlace calls p → IsPlace (Advance moment ∷ calls) p
+    place due p is =
+        place_advanced moment calls book.checks p p.since due stands.checks
+        (most_alone p.since (λ end. (slot : ℕ) × IsEnded moment (get_or p.counts slot false) (get_or book.checks slot no_check) end)
+        (λ end ended. undone ended.0 ended.1.check ended.1.in_slot (subst (λ e. e ≤ moment) (sym ended.1.ends) ended.1.done))) is
 
 pub stands_radar : (book new : Book) (channels : List ℕ) (calls : List Call) (chan : ChanDef) → StandsFor book channels calls → IsDue calls (Radar chan)
     → new.moment ≡ book.moment → EachFollows (PlaceFollows (λ calls. now_of calls ≡ book.moment) (Radar chan)) book.places new.places

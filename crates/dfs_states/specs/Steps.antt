@@ -1,5 +1,5 @@
 -- What the steps of a book do to its parts, one by one.
-use Rattle.std.specs.Prelude.{◌≡◌, ℕ, ◌<◌, ◌≤◌, List, [], ◌∷◌, length, map, All, Option, Some, slice_index_or, Bool, true}
+use Rattle.std.specs.Prelude.{◌≡◌, ℕ, ◌<◌, ◌≤◌, List, [], ◌∷◌, length, map, All, Option, Some, slice_index_or, Bool, true, None}
 use Rattle.dfs_states.specs.Calls.{Call, Advance}
 use Rattle.dfs_states.specs.Meaning.{AreDue}
 use Rattle.dfs_states.specs.StandsFor.{IsCheck, IsPlace}
@@ -21,6 +21,11 @@ pub record PlaceFollows (Premise : List Call → Type 0) (call : Call) (old new 
 abbrev pub CheckFollows : ℕ → Option Check → Option Check → Type 0
 CheckFollows moment old new =
     (calls : List Call) (slot : ℕ) → AreDue (Advance moment ∷ calls) → IsCheck calls slot old → IsCheck (Advance moment ∷ calls) slot new
+
+-- there is a check, and it is done
+abbrev pub IsDone : ℕ → Option Check → Type 0
+IsDone now None = ⊥
+IsDone now (Some check) = check.end ≤ now
 
 -- the check that runs in a slot counts for the channel, and it ends at this moment, which is past or present
 pub record IsEnded (now : ℕ) (counts : Bool) (running : Option Check) (end : ℕ) : Type 0 where

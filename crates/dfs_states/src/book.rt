@@ -6,7 +6,7 @@ ghost use Rattle.dfs_states.specs.Meaning.{IsDue, IsIdle, IsAnswer, IsRunning};
 ghost use Rattle.dfs_states.specs.StandsFor.{StandsFor};
 ghost use Rattle.dfs_states.specs.Steps.{ArePlaces};
 
-use crate::check::{Check, clear_done};
+use crate::check::{Check, clear_done, some_is_done};
 use crate::dfs::Dfs;
 use crate::place::{Place, advance_each, begin_check, change_region, meet_radar, place_of};
 use crate::slot::IfSlot;
@@ -53,6 +53,10 @@ impl DfsBook {
         ensures stands_for { (channels : List ℕ) (calls : List Call) → StandsFor self.old channels calls
             → IsDue calls (Advance now) → StandsFor self.new channels (Advance now ∷ calls) }
     {
+        if !some_is_done(now, &self.checks) {
+            self.moment = now;
+            return;
+        }
         advance_each(now, &self.checks, self.places.as_mut_slice());
         clear_done(now, &mut self.checks);
         self.moment = now;

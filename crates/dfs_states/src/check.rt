@@ -1,7 +1,7 @@
 //! Checks that run.
 
-ghost use Rattle.std.specs.Prelude.{◌≡◌, ℕ, ◌↔◌, Some};
-ghost use Rattle.dfs_states.specs.Steps.{EachFollows, CheckFollows, IsEnded};
+ghost use Rattle.std.specs.Prelude.{◌≡◌, ℕ, ◌↔◌, Some, IsTrue, Any};
+ghost use Rattle.dfs_states.specs.Steps.{EachFollows, CheckFollows, IsDone, IsEnded};
 
 use chan_def::ChanDef;
 
@@ -23,6 +23,23 @@ fn unless_done(now: u64, check: Option<Check>) -> Option<Check>
         Some(running) if now < running.end => check,
         _ => None,
     }
+}
+
+/// Whether the check is done.
+fn is_done(now: u64, check: &Option<Check>) -> bool
+    ensures { IsTrue result ↔ IsDone now check.now }
+{
+    match check {
+        Some(running) => running.end <= now,
+        None => false,
+    }
+}
+
+/// Whether some check is done.
+pub(crate) fn some_is_done(now: u64, checks: &[Option<Check>]) -> bool
+    ensures { IsTrue result ↔ Any (IsDone now) checks.now }
+{
+    checks.iter().any(|check| is_done(now, check))
 }
 
 /// Takes the checks that are done out of their slots.
