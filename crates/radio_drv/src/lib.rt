@@ -1,0 +1,22 @@
+//! Drivers of radios, simulated ones among them, and what they are told: interfaces by index, what is on air,
+//! checks.
+#![tactic(auto)]
+
+mod air_list;
+mod driver;
+mod failing;
+mod iface;
+mod name;
+mod on_air;
+mod sim;
+
+pub use driver::{Driver, DriverFailed};
+pub use failing::FailingDriver;
+pub use iface::IfIndex;
+pub use name::Name;
+pub use on_air::{CheckTold, OnAir};
+pub use sim::SimDriver;
+
+
+#[cfg(test)]
+mod tests;
