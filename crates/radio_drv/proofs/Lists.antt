@@ -28,7 +28,7 @@ pub started_end : (entry : OnAir) (air : List OnAir) → ((k : ℕ) (d : OnAir) 
 started_end entry [] none = refl
 started_end entry (x ∷ air) none =
     rw (ne_eqb x.iface entry.iface (none 0 x (omega arith)))
-        (ap (λ ys. x ∷ ys) (started_end entry air (λ k d below. none (suc k) d (omega arith))))
+    (ap (λ ys. x ∷ ys) (started_end entry air (λ k d below. none (suc k) d (omega arith))))
 
 pub stopped_few : (iface : ℕ) (air : List OnAir) → length (stopped iface air) ≤ length air
 stopped_few iface [] = omega arith

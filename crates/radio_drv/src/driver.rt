@@ -28,12 +28,7 @@ pub trait Driver: Drop {
 
     /// Puts the interface on air (`start_ap` and its like): its entry is replaced in its place, or added at
     /// the end. `DriverFailed` leaves the list, and comes only where the count rose.
-    fn start(
-        &mut self,
-        iface: IfIndex,
-        chan: ChanDef,
-        power_mbm: u16,
-    ) -> Result<(), DriverFailed>
+    fn start(&mut self, iface: IfIndex, chan: ChanDef, power_mbm: u16) -> Result<(), DriverFailed>
         requires { HasPlace (on_air self.old) iface }
         ensures air { MatchResult result
             (λ _. on_air self.new ≡ started (record { iface = iface; chan = chan; power_mbm = power_mbm }) (on_air self.old))

@@ -97,12 +97,7 @@ impl Driver for FailingDriver {
 
     ghost steady = { λ _. false };
 
-    fn start(
-        &mut self,
-        iface: IfIndex,
-        chan: ChanDef,
-        power_mbm: u16,
-    ) -> Result<(), DriverFailed>
+    fn start(&mut self, iface: IfIndex, chan: ChanDef, power_mbm: u16) -> Result<(), DriverFailed>
         requires { HasPlace self.old.air iface }
         ensures fails { IsErr result ↔ Contains self.old.failing (counted self.old.calls) }
         ensures air { MatchResult result

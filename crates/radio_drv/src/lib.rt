@@ -17,6 +17,5 @@ pub use name::Name;
 pub use on_air::{CheckTold, OnAir};
 pub use sim::SimDriver;
 
-
 #[cfg(test)]
 mod tests;

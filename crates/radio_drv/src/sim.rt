@@ -60,17 +60,13 @@ impl Driver for SimDriver {
 
     ghost steady = { λ _. true };
 
-    fn start(
-        &mut self,
-        iface: IfIndex,
-        chan: ChanDef,
-        power_mbm: u16,
-    ) -> Result<(), DriverFailed> {
-        self.air.start(OnAir {
+    fn start(&mut self, iface: IfIndex, chan: ChanDef, power_mbm: u16) -> Result<(), DriverFailed> {
+        let entry = OnAir {
             iface,
             chan,
             power_mbm,
-        });
+        };
+        self.air.start(entry);
         Ok(())
     }
 
@@ -84,11 +80,12 @@ impl Driver for SimDriver {
         chan: ChanDef,
         length_ms: u32,
     ) -> Result<(), DriverFailed> {
-        self.told = Some(CheckTold {
+        let told = CheckTold {
             iface,
             chan,
             length_ms,
-        });
+        };
+        self.told = Some(told);
         Ok(())
     }
 

@@ -37,7 +37,10 @@ fn what_is_on_air(rt: HostRuntime) {
     assert_eq!(rt; driver.start(IfIndex(1), CHAN, 2000), Ok(()));
     assert_eq!(rt; driver.start(IfIndex(2), CHAN, 1000), Ok(()));
     assert_eq!(rt; driver.start(IfIndex(1), CHAN, 1500), Ok(()));
-    assert_eq!(rt; driver.on_air(), [entry(1, 1500), entry(2, 1000)].as_slice());
+    assert_eq!(rt;
+        driver.on_air(),
+        [entry(1, 1500), entry(2, 1000)].as_slice()
+    );
     driver.set_power(IfIndex(2), 300);
     driver.stop(IfIndex(1));
     driver.stop(IfIndex(3));
@@ -49,7 +52,7 @@ fn what_is_on_air(rt: HostRuntime) {
 fn failing_calls(rt: HostRuntime) -> Result<(), Fail> {
     let mut driver = FailingDriver::new(rt.alloc(), &[1, 4])?;
     assert_eq!(rt; driver.start(IfIndex(1), CHAN, 2000), Err(DriverFailed));
-    assert_eq!(rt; driver.on_air(), [].as_slice());
+    assert!(rt; driver.on_air().is_empty());
     assert_eq!(rt; driver.start(IfIndex(1), CHAN, 2000), Ok(()));
     assert_eq!(rt; driver.begin_check(IfIndex(1), CHAN, 60_000), Ok(()));
     let told = CheckTold {
