@@ -1,7 +1,5 @@
 //! The calls.
 
-ghost use Rattle.std.specs.Prelude.{◌≤◌, ◌^◌};
-
 use crate::count::Count;
 use crate::draws::Draws;
 use crate::keeper::Keeper;
@@ -15,12 +13,9 @@ const LAST_MOMENT: u64 = 1_000_000_000_000_000;
 /// How long a check takes, in ms.
 const CHECK_MS: u32 = 60_000;
 
-/// One more call. Of 1,024 some 2 are radar, 2 changes of the region, 60 drops, 260 begins, 300 moments
+/// One more call, at this moment, in ms; what moment it is then. Of 1,024 some 2 are radar, 2 changes of the region, 60 drops, 260 begins, 300 moments
 /// and 400 questions.
-fn make_call<K: Keeper>(keeper: &mut K, draws: &mut Draws, now: u64, count: &mut Count) -> u64
-    requires { now ≤ 10 ^ 15 }
-    ensures { result ≤ 10 ^ 15 }
-{
+fn make_call<K: Keeper>(keeper: &mut K, draws: &mut Draws, now: u64, count: &mut Count) -> u64 {
     match draws.below(1024) {
         0..2 => keeper.radar(&draws.chan()),
         2..4 => keeper.region_changed(),
@@ -30,7 +25,7 @@ fn make_call<K: Keeper>(keeper: &mut K, draws: &mut Draws, now: u64, count: &mut
             count.begun = count.begun.wrapping_add(u64::from(begun));
         }
         324..624 => {
-            let now = (now + draws.below(4_000)).min(LAST_MOMENT);
+            let now = now.saturating_add(draws.below(4_000)).min(LAST_MOMENT);
             keeper.advance(now);
             return now;
         }

@@ -1,6 +1,6 @@
 //! The arguments of the calls, drawn by a generator of numbers.
 
-ghost use Rattle.std.specs.Prelude.{◌<◌, ◌≤◌, ◌^◌};
+ghost use Rattle.std.specs.Prelude.{◌<◌};
 
 use chan_def::{ChanDef, Width};
 
@@ -46,25 +46,23 @@ impl Draws {
     }
 
     /// The centre of one of the channels, in kHz.
-    pub(crate) fn khz(&mut self) -> u32
-        ensures { result < 2 ^ 31 }
-    {
+    pub(crate) fn khz(&mut self) -> u32 {
         LOWEST_KHZ + 20_000 * self.below(CHANNELS as u64) as u32
     }
 
     /// A channel whose lowest subchannel is one of the channels, and is its control channel.
     pub(crate) fn chan(&mut self) -> ChanDef {
         let control_khz = self.khz();
-        let (width, half_khz) = match self.below(4) {
-            0 => (Width::W20, 10_000),
-            1 => (Width::W40, 20_000),
-            2 => (Width::W80, 40_000),
-            _ => (Width::W160, 80_000),
+        let (width, above_khz) = match self.below(4) {
+            0 => (Width::W20, 0),
+            1 => (Width::W40, 10_000),
+            2 => (Width::W80, 30_000),
+            _ => (Width::W160, 70_000),
         };
         ChanDef {
             control_khz,
             width,
-            centre_khz: control_khz - 10_000 + half_khz,
+            centre_khz: control_khz.saturating_add(above_khz),
         }
     }
 }

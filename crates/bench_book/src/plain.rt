@@ -1,5 +1,7 @@
 //! Plain arrays, with the least that is to be kept.
 
+ghost use Rattle.std.specs.Prelude.{◌≤◌};
+
 use crate::draws::{CHANNELS, LOWEST_KHZ};
 use crate::keeper::Keeper;
 use chan_def::{ChanDef, Width};
@@ -28,7 +30,9 @@ impl Plain {
 }
 
 /// The places of the channels that it covers: the first one and that behind the last.
-fn places(c: &ChanDef) -> (usize, usize) {
+fn places(c: &ChanDef) -> (usize, usize)
+    ensures { result.1 ≤ 100 }
+{
     let count = match c.width {
         Width::Noht | Width::W20 => 1,
         Width::W40 => 2,
