@@ -13,8 +13,8 @@ const LAST_MOMENT: u64 = 1_000_000_000_000_000;
 /// How long a check takes, in ms.
 const CHECK_MS: u32 = 60_000;
 
-/// One more call, at this moment, in ms; what moment it is then. Of 1,024 some 2 are radar, 2 changes of the region, 60 drops, 260 begins, 300 moments
-/// and 400 questions.
+/// One more call, at this moment, in ms; what moment it is then. Of 1,024 calls some 2 are radar, 2
+/// changes of the region, 60 drops, 260 begins, 300 moments and 400 questions.
 fn make_call<K: Keeper>(keeper: &mut K, draws: &mut Draws, now: u64, count: &mut Count) -> u64 {
     match draws.below(1024) {
         0..2 => keeper.radar(&draws.chan()),

@@ -19,6 +19,6 @@ pub fn answers_are_determined()
 /// A book that stands for moments and changes of the region alone stands for any such list that
 /// leads to the same moment.
 pub fn blank_calls_are_alike()
-    ensures { (book : Book) (channels : List ℕ) (calls others : List Call) → AreBlank calls → AreBlank others
+    ensures alike { (book : Book) (channels : List ℕ) (calls others : List Call) → AreBlank calls → AreBlank others
         → AreDue others → now_of calls ≡ now_of others → StandsFor book channels calls → StandsFor book channels others }
 {}

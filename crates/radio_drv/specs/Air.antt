@@ -1,5 +1,5 @@
 -- The list of what is on air, and what the calls of a driver make of it. An interface is named by its index.
-use Rattle.std.specs.Prelude.{◌≡◌, ℕ, ◌<◌, ◌==◌, if◌then◌else◌, not, ◌⊎◌, List, [], ◌∷◌, length, map, filter, Any, Bool}
+use Rattle.std.specs.Prelude.{◌≡◌, ℕ, ◌<◌, ◌≤◌, AllPairs, ◌==◌, if◌then◌else◌, not, ◌⊎◌, List, [], ◌∷◌, length, map, filter, Any, Bool}
 use Rattle.radio_drv.specs.declared.on_air.OnAir.{OnAir}
 
 -- the interface is on air
@@ -26,3 +26,8 @@ with_power iface power x = if x.iface == iface then record x { power_mbm = power
 -- the interface's entry gets this power, if there is one
 abbrev pub powered : ℕ → ℕ → List OnAir → List OnAir
 powered iface power air = map (with_power iface power) air
+
+-- at most eight entries, each interface once
+pub record IsAir (air : List OnAir) : Type 0 where
+  pub few : length air ≤ 8
+  pub once : AllPairs (λ x y. x.iface ≡ y.iface → ⊥) air

@@ -2,7 +2,7 @@
 
 ghost use Rattle.std.specs.Prelude.{◌≡◌, ◌≤◌, ◌↔◌, [], None, false, Contains, IfOk, IsErr, IsTrue, MatchResult, Some};
 ghost use Rattle.reg_base.specs.Causes.{HasCause, counted};
-ghost use Rattle.radio_drv.specs.Air.{HasPlace, started};
+ghost use Rattle.radio_drv.specs.Air.{HasPlace, started, stopped, powered};
 ghost use Rattle.radio_drv.specs.declared.on_air.CheckTold.{CheckTold};
 ghost use Rattle.radio_drv.specs.declared.on_air.OnAir.{OnAir};
 
@@ -105,11 +105,10 @@ impl Driver for FailingDriver {
             (λ _. self.new.air ≡ self.old.air) }
         ensures told { self.new.told ≡ self.old.told }
         ensures cause { HasCause self.old.faults self.new.faults result }
-        ensures faults { MatchResult result (λ _. self.new.faults ≡ self.old.faults) (λ _. self.new.faults ≡ counted self.old.faults) }
+        ensures faults { MatchResult result (λ _. self.new.faults ≡ self.old.faults)
+            (λ _. self.new.faults ≡ counted self.old.faults) }
         ensures failing { self.new.failing ≡ self.old.failing }
         ensures calls { self.new.calls ≡ counted self.old.calls }
-        ensures steady { false ≡ false }
-        ensures never { IsTrue false → self.new.faults ≡ self.old.faults }
     {
         if self.fails_next() {
             self.count_fault();
@@ -118,7 +117,9 @@ impl Driver for FailingDriver {
         self.driver.start(iface, chan, power_mbm)
     }
 
-    fn stop(&mut self, iface: IfIndex) {
+    fn stop(&mut self, iface: IfIndex)
+        ensures stopped { self.new ≡ record self.old { air = stopped iface self.old.air } }
+    {
         self.driver.stop(iface);
     }
 
@@ -134,11 +135,10 @@ impl Driver for FailingDriver {
             (λ _. self.new.told ≡ Some (record { iface = iface; chan = chan; length_ms = length_ms }))
             (λ _. self.new.told ≡ self.old.told) }
         ensures cause { HasCause self.old.faults self.new.faults result }
-        ensures faults { MatchResult result (λ _. self.new.faults ≡ self.old.faults) (λ _. self.new.faults ≡ counted self.old.faults) }
+        ensures faults { MatchResult result (λ _. self.new.faults ≡ self.old.faults)
+            (λ _. self.new.faults ≡ counted self.old.faults) }
         ensures failing { self.new.failing ≡ self.old.failing }
         ensures calls { self.new.calls ≡ counted self.old.calls }
-        ensures steady { false ≡ false }
-        ensures never { IsTrue false → self.new.faults ≡ self.old.faults }
     {
         if self.fails_next() {
             self.count_fault();
@@ -147,7 +147,9 @@ impl Driver for FailingDriver {
         self.driver.begin_check(iface, chan, length_ms)
     }
 
-    fn set_power(&mut self, iface: IfIndex, power_mbm: u16) {
+    fn set_power(&mut self, iface: IfIndex, power_mbm: u16)
+        ensures powered { self.new ≡ record self.old { air = powered iface power_mbm self.old.air } }
+    {
         self.driver.set_power(iface, power_mbm);
     }
 

@@ -25,7 +25,10 @@ impl Model for Name {
 
     ghost inverse = { λ bytes. record { bytes = bytes ++ replicate (15 - length bytes) 0; count = length bytes } };
 
-    ghost inverse_ok = { λ a padded. λ i. record { bytes = padded_bytes a.bytes a.count padded i; count = padded.counted i } };
+    ghost inverse_ok = { λ a padded. λ i. record {
+      bytes = padded_bytes a.bytes a.count padded i;
+      count = padded.counted i;
+    } };
 }
 
 impl Name {
