@@ -47,7 +47,8 @@ impl DfsBook {
         })
     }
 
-    /// It is `now`, in ms, which isn't earlier than before.
+    /// It is `now`, in ms, which isn't earlier than before. A check that ends by then is done
+    /// (`cfg80211_cac_event`).
     pub fn advance(&mut self, now: u64)
         requires { now ≤ 10 ^ 15 }
         ensures stands_for { (channels : List ℕ) (calls : List Call) → StandsFor self.old channels calls
@@ -70,7 +71,8 @@ impl DfsBook {
         meet_radar(self.moment, c, self.places.as_mut_slice());
     }
 
-    /// A check begins in an idle slot, at the present moment, and takes `length_ms`.
+    /// A check begins in an idle slot, at the present moment, and takes `length_ms`
+    /// (`NL80211_CMD_RADAR_DETECT`).
     pub fn begin(&mut self, iface: IfSlot, c: &ChanDef, length_ms: u32)
         ensures stands_for { (channels : List ℕ) (calls : List Call) → StandsFor self.old channels calls
             → IsDue calls (Begin iface c.now length_ms) → StandsFor self.new channels (Begin iface c.now length_ms ∷ calls) }
@@ -87,7 +89,7 @@ impl DfsBook {
         });
     }
 
-    /// The slot's check is dropped. Where none runs, nothing changes.
+    /// The slot's check is dropped (`NL80211_RADAR_CAC_ABORTED`). Where none runs, nothing changes.
     pub fn drop_check(&mut self, iface: IfSlot)
         ensures stands_for { (channels : List ℕ) (calls : List Call) → StandsFor self.old channels calls
             → IsDue calls (DropCheck iface) → StandsFor self.new channels (DropCheck iface ∷ calls) }
@@ -97,7 +99,7 @@ impl DfsBook {
         self.checks[iface.place()] = None;
     }
 
-    /// The region has changed (`reg_process_hint`).
+    /// The region of the radio has changed (`reg_get_dfs_region`).
     pub fn region_changed(&mut self)
         ensures stands_for { (channels : List ℕ) (calls : List Call) → StandsFor self.old channels calls
             → StandsFor self.new channels (RegionChanged ∷ calls) }
