@@ -1,6 +1,6 @@
 //! Why nothing was timed.
 
-use reg_base::OutOfMemory;
+use freq_range::OutOfMemory;
 use std::io;
 
 /// The word is no good, the input can't be read, or no memory was found.

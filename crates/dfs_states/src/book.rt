@@ -11,7 +11,7 @@ use crate::dfs::Dfs;
 use crate::place::{Place, advance_each, begin_check, change_region, meet_radar, place_of};
 use crate::slot::IfSlot;
 use chan_def::ChanDef;
-use reg_base::OutOfMemory;
+use freq_range::OutOfMemory;
 use std::alloc::Global;
 use std::marker::Model;
 

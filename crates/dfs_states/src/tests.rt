@@ -2,7 +2,7 @@
 
 use super::{Dfs, DfsBook, IfSlot};
 use chan_def::{ChanDef, Width};
-use reg_base::OutOfMemory;
+use freq_range::OutOfMemory;
 use std::process::Abort;
 
 /// The channels of 20 MHz from 5170 to 5330 MHz.

@@ -1,5 +1,5 @@
 -- The list of what is on air, and what the calls of a driver make of it. An interface is named by its index.
-use Rattle.std.specs.Prelude.{◌≡◌, ℕ, ◌<◌, ◌≤◌, AllPairs, ◌==◌, if◌then◌else◌, not, ◌⊎◌, List, [], ◌∷◌, length, map, filter, Any, Bool}
+use Rattle.std.specs.Prelude.{◌≡◌, ℕ, ◌<◌, ◌≤◌, AllPairs, ◌==◌, if◌then◌else◌, not, ◌⊎◌, List, [], ◌∷◌, length, map, filter, Any}
 use Rattle.radio_drv.specs.declared.on_air.OnAir.{OnAir}
 
 -- the interface is on air

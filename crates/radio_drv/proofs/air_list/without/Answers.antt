@@ -1,4 +1,4 @@
-use Rattle.std.proofs.Common.{◌≡◌, ◌<◌, length, take, ap, arith}
+use Rattle.std.proofs.Common.{length, take, ap, arith}
 use Rattle.std.proofs.lemmas.List.{length-take}
 use Rattle.radio_drv.proofs.Lists.{stopped_few}
 use Rattle.radio_drv.proofs.air_list.without.Goals as goal

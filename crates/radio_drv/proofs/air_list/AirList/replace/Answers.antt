@@ -1,4 +1,4 @@
-use Rattle.std.proofs.Common.{◌≡◌, set, ap, ◌∙◌}
+use Rattle.std.proofs.Common.{set, ap, ◌∙◌}
 use Rattle.radio_drv.proofs.Lists.{take-set}
 use Rattle.radio_drv.proofs.air_list.AirList.replace.Goals as goal
 

@@ -1,4 +1,4 @@
-use Rattle.std.proofs.Common.{◌≡◌, ◌∙◌}
+use Rattle.std.proofs.Common.{◌∙◌}
 use Rattle.radio_drv.proofs.Lists.{started_first, started_end}
 use Rattle.radio_drv.proofs.air_list.AirList.start.Goals as goal
 
