@@ -9,3 +9,6 @@ pub record Seen : Type 0 where
   pub told : Option CheckTold
   pub count : ℕ
   pub steady : Bool
+
+abbrev pub seen : List OnAir → Option CheckTold → ℕ → Bool → Seen
+seen air told count steady = record { air = air; told = told; count = count; steady = steady }
