@@ -1,0 +1,16 @@
+pub mod Asked
+pub mod Begun
+pub mod Blank
+pub mod Checks
+pub mod Determined
+pub mod Each
+pub mod Ended
+pub mod Later
+pub mod Most
+pub mod Places
+pub mod Radar
+pub mod Running
+pub mod Slots
+pub mod Splits
+pub mod Standing
+pub mod Whole

@@ -1,0 +1,18 @@
+use Rattle.std.proofs.Common.{sym}
+use Rattle.dfs_states.proofs.Asked.{answer_there, answer_none}
+use Rattle.dfs_states.proofs.book.DfsBook.state.Goals as goal
+
+pub returns-in-Some : goal.returns-in-Some
+returns-in-Some c = record {
+  answer = λ channels calls stands.
+      let stood = rw (← c.self.view_is) at stands in
+      let found = rw c.as_slice.ensures.value at c.in-Some.ensures in
+      answer_there _ channels calls c.args.khz c.state.result c.in-Some.place stood found.0 found.1 (λ is. c.state.ensures calls (sym stood.moment) is);
+}
+
+pub returns-in-None : goal.returns-in-None
+returns-in-None c = record {
+  answer = λ channels calls stands.
+      let stood = rw (← c.self.view_is) at stands in
+      answer_none _ channels calls c.args.khz stood (rw c.as_slice.ensures.value at c.in-None.ensures);
+}

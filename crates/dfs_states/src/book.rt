@@ -1,0 +1,141 @@
+//! The book.
+
+ghost use Rattle.std.specs.Prelude.{◌≡◌, ℕ, List, [], ◌∷◌, ◌≤◌, ◌^◌, IfOk};
+ghost use Rattle.dfs_states.specs.Calls.{Call, Advance, Radar, Begin, DropCheck, RegionChanged};
+ghost use Rattle.dfs_states.specs.Meaning.{IsDue, IsIdle, IsAnswer, IsRunning};
+ghost use Rattle.dfs_states.specs.StandsFor.{StandsFor};
+ghost use Rattle.dfs_states.specs.Steps.{ArePlaces};
+
+use crate::check::{Check, clear_done, some_is_done};
+use crate::dfs::Dfs;
+use crate::place::{Place, advance_each, begin_check, change_region, meet_radar, place_of};
+use crate::slot::IfSlot;
+use chan_def::ChanDef;
+use freq_range::OutOfMemory;
+use std::alloc::Global;
+use std::marker::Model;
+
+/// What a radio knows of radar and of checks on its channels. Its meaning is the calls that it stands
+/// for, the newest first: any list of calls, each within its condition, that leads to what is kept.
+#[derive(Debug, Drop)]
+pub struct DfsBook {
+    moment: u64,
+    checks: [Option<Check>; 8],
+    places: Vec<Place>,
+}
+
+impl Model for DfsBook {
+    ghost use Rattle.std.specs.Prelude.{◌≤◌, ◌^◌};
+    ghost use Rattle.dfs_states.specs.Book.{Book};
+
+    ghost Value = { Book };
+
+    ghost view = { λ b. record { moment = b.moment; checks = b.checks; places = b.places.items } };
+
+    ghost invariant = { λ b. b.moment ≤ 10 ^ 15 };
+}
+
+impl DfsBook {
+    /// The book of the channels of these centres, in kHz, at moment 0. All are usable.
+    pub fn new(alloc: Global, channels: &[u32]) -> Result<DfsBook, OutOfMemory>
+        ensures opening { IfOk result (λ book. StandsFor book channels.now []) }
+    {
+        Ok(DfsBook {
+            moment: 0,
+            checks: [None; 8],
+            places: unused_places(alloc, channels)?,
+        })
+    }
+
+    /// It is `now`, in ms, which isn't earlier than before. A check that ends by then is done
+    /// (`cfg80211_cac_event`).
+    pub fn advance(&mut self, now: u64)
+        requires { now ≤ 10 ^ 15 }
+        ensures stands_for { (channels : List ℕ) (calls : List Call) → StandsFor self.old channels calls
+            → IsDue calls (Advance now) → StandsFor self.new channels (Advance now ∷ calls) }
+    {
+        if !some_is_done(now, &self.checks) {
+            self.moment = now;
+            return;
+        }
+        advance_each(now, &self.checks, self.places.as_mut_slice());
+        clear_done(now, &mut self.checks);
+        self.moment = now;
+    }
+
+    /// There is radar on the channel, at the present moment (`cfg80211_radar_event`).
+    pub fn radar(&mut self, c: &ChanDef)
+        ensures stands_for { (channels : List ℕ) (calls : List Call) → StandsFor self.old channels calls
+            → IsDue calls (Radar c.now) → StandsFor self.new channels (Radar c.now ∷ calls) }
+    {
+        meet_radar(self.moment, c, self.places.as_mut_slice());
+    }
+
+    /// A check begins in an idle slot, at the present moment, and takes `length_ms`
+    /// (`NL80211_CMD_RADAR_DETECT`).
+    pub fn begin(&mut self, iface: IfSlot, c: &ChanDef, length_ms: u32)
+        ensures stands_for { (channels : List ℕ) (calls : List Call) → StandsFor self.old channels calls
+            → IsDue calls (Begin iface c.now length_ms) → StandsFor self.new channels (Begin iface c.now length_ms ∷ calls) }
+    {
+        let slot = iface.place();
+        begin_check(self.moment, slot, c, length_ms, self.places.as_mut_slice());
+        if length_ms == 0 {
+            return;
+        }
+        self.checks[slot] = Some(Check {
+            chan: *c,
+            start: self.moment,
+            end: self.moment + u64::from(length_ms),
+        });
+    }
+
+    /// The slot's check is dropped (`NL80211_RADAR_CAC_ABORTED`). Where none runs, nothing changes.
+    pub fn drop_check(&mut self, iface: IfSlot)
+        ensures stands_for { (channels : List ℕ) (calls : List Call) → StandsFor self.old channels calls
+            → IsDue calls (DropCheck iface) → StandsFor self.new channels (DropCheck iface ∷ calls) }
+        ensures unchanged { (channels : List ℕ) (calls : List Call) → StandsFor self.old channels calls
+            → IsIdle calls iface → self.new ≡ self.old }
+    {
+        self.checks[iface.place()] = None;
+    }
+
+    /// The region of the radio has changed (`reg_get_dfs_region`).
+    pub fn region_changed(&mut self)
+        ensures stands_for { (channels : List ℕ) (calls : List Call) → StandsFor self.old channels calls
+            → StandsFor self.new channels (RegionChanged ∷ calls) }
+    {
+        change_region(self.places.as_mut_slice());
+    }
+
+    /// The state of the channel of this centre, in kHz. A centre that isn't of the book is usable.
+    pub fn state(&self, khz: u32) -> Dfs
+        ensures answer { (channels : List ℕ) (calls : List Call) → StandsFor self.now channels calls
+            → IsAnswer channels calls khz result }
+    {
+        match place_of(khz, self.places.as_slice()) {
+            Some(place) => place.state(self.moment),
+            None => Dfs::Usable,
+        }
+    }
+
+    /// The channel of the check that runs in the slot, and when it is done, in ms. `None` exactly where
+    /// none runs.
+    pub fn running(&self, iface: IfSlot) -> Option<(ChanDef, u64)>
+        ensures answer { (channels : List ℕ) (calls : List Call) → StandsFor self.now channels calls
+            → IsRunning calls iface result }
+    {
+        let check = self.checks[iface.place()]?;
+        Some((check.chan, check.end))
+    }
+}
+
+/// A place for each centre, in kHz, on whose channel nothing has happened.
+fn unused_places(alloc: Global, channels: &[u32]) -> Result<Vec<Place>, OutOfMemory>
+    ensures { IfOk result (λ places. ArePlaces channels.now places.items) }
+{
+    let mut places = Vec::with_capacity(alloc, channels.len())?;
+    for khz in channels {
+        places.push(Place::unused(*khz))?;
+    }
+    Ok(places)
+}

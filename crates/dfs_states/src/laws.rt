@@ -1,0 +1,24 @@
+//! Laws over all lists of calls.
+
+ghost use Rattle.std.specs.Prelude.{◌≡◌, ℕ, List, Option};
+ghost use Rattle.chan_def.specs.declared.definition.ChanDef.{ChanDef};
+ghost use Rattle.dfs_states.specs.Book.{Book};
+ghost use Rattle.dfs_states.specs.Calls.{Call, now_of};
+ghost use Rattle.dfs_states.specs.Meaning.{AreDue, AreBlank, IsAnswer, IsRunning};
+ghost use Rattle.dfs_states.specs.StandsFor.{StandsFor};
+ghost use Rattle.dfs_states.specs.declared.dfs.Dfs.{Dfs};
+
+/// A list of calls leaves one answer for each centre, and one for each slot.
+pub fn answers_are_determined()
+    ensures state { (channels : List ℕ) (calls : List Call) (khz : ℕ) (one other : Dfs)
+        → IsAnswer channels calls khz one → IsAnswer channels calls khz other → one ≡ other }
+    ensures running { (calls : List Call) (slot : ℕ) (one other : Option (ChanDef × ℕ))
+        → IsRunning calls slot one → IsRunning calls slot other → one ≡ other }
+{}
+
+/// A book that stands for moments and changes of the region alone stands for any such list that
+/// leads to the same moment.
+pub fn blank_calls_are_alike()
+    ensures alike { (book : Book) (channels : List ℕ) (calls others : List Call) → AreBlank calls → AreBlank others
+        → AreDue others → now_of calls ≡ now_of others → StandsFor book channels calls → StandsFor book channels others }
+{}

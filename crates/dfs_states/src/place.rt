@@ -1,0 +1,193 @@
+//! What is kept of one channel.
+
+ghost use Rattle.std.specs.Prelude.{◌≡◌, ℕ, ◌⊎◌, ◌<◌, ◌≤◌, ◌^◌, List, [], Some, Contains, MatchOption, slice_index_or, length, false, None};
+ghost use Rattle.dfs_states.specs.Calls.{Call, Advance, Radar, Begin, RegionChanged, now_of};
+ghost use Rattle.dfs_states.specs.Greatest.{IsMost};
+ghost use Rattle.dfs_states.specs.Meaning.{IsState};
+ghost use Rattle.dfs_states.specs.StandsFor.{AreChecks, IsPlace};
+ghost use Rattle.dfs_states.specs.Steps.{EachFollows, PlaceFollows, IsEnded};
+
+use crate::check::{Check, end_of};
+use crate::dfs::Dfs;
+use crate::moments::later;
+use chan_def::{ChanDef, covers};
+
+/// How long a channel isn't used after radar, in ms (`IEEE80211_DFS_MIN_NOP_TIME_MS`).
+const NONOCCUPANCY_MS: u64 = 1_800_000;
+
+/// What is known of a channel of 20 MHz.
+#[derive(Clone, Copy, Debug)]
+pub(crate) struct Place {
+    /// Its centre, in kHz.
+    pub khz: u32,
+    /// The latest end of a nonoccupancy, in ms.
+    pub until: Option<u64>,
+    /// The latest end of a check that stands for it, in ms.
+    pub since: Option<u64>,
+    /// For each slot, whether the check that runs there counts for it.
+    pub counts: [bool; 8],
+}
+
+impl Place {
+    /// Nothing has happened on the channel.
+    pub(crate) fn unused(khz: u32) -> Place
+        ensures khz { result.khz ≡ khz }
+        ensures place { IsPlace [] result }
+    {
+        Place {
+            khz,
+            until: None,
+            since: None,
+            counts: [false; 8],
+        }
+    }
+
+    /// The state at the present moment.
+    pub(crate) fn state(&self, now: u64) -> Dfs
+        ensures { (calls : List Call) → now_of calls ≡ now → IsPlace calls self.now → IsState calls self.now.khz result }
+    {
+        if let Some(until) = self.bar(now) {
+            return Dfs::Unavailable { until };
+        }
+        match self.since {
+            Some(since) => Dfs::Available { since },
+            None => Dfs::Usable,
+        }
+    }
+
+    /// The end of its nonoccupancy, in ms, unless that is over.
+    fn bar(&self, now: u64) -> Option<u64>
+        ensures { MatchOption result ((until : ℕ) → self.now.until ≡ Some until → until ≤ now)
+            (λ until. (self.now.until ≡ Some until) × (now < until)) }
+    {
+        match self.until {
+            Some(until) if now < until => Some(until),
+            _ => None,
+        }
+    }
+
+    /// After the moment has come, with the checks that ran until then.
+    fn after_advance(&self, now: u64, checks: &[Option<Check>; 8]) -> Place
+        ensures { PlaceFollows (AreChecks checks.now) (Advance now) self.now result }
+    {
+        Place {
+            since: latest_end(now, &self.counts, checks, self.since),
+            ..*self
+        }
+    }
+
+    /// After radar. A check that met radar counts no more, though it may run on.
+    fn after_radar(&self, now: u64, c: &ChanDef) -> Place
+        requires { now ≤ 10 ^ 15 }
+        ensures { PlaceFollows (λ calls. now_of calls ≡ now) (Radar c.now) self.now result }
+    {
+        if !covers(c, self.khz) {
+            return *self;
+        }
+        Place {
+            khz: self.khz,
+            until: later(self.until, Some(now + NONOCCUPANCY_MS)),
+            since: None,
+            counts: [false; 8],
+        }
+    }
+
+    /// After a change of the region.
+    fn after_region_change(&self) -> Place
+        ensures { PlaceFollows (λ _. Unit {0}) RegionChanged self.now result }
+    {
+        Place {
+            since: None,
+            counts: [false; 8],
+            ..*self
+        }
+    }
+
+    /// After the beginning of a check. One of length 0 is done at once.
+    fn after_begin(&self, now: u64, slot: usize, c: &ChanDef, length_ms: u32) -> Place
+        requires { slot < 8 }
+        ensures { PlaceFollows (λ calls. now_of calls ≡ now) (Begin slot c.now length_ms) self.now result }
+    {
+        let mut counts = self.counts;
+        if !covers(c, self.khz) {
+            counts[slot] = false;
+            return Place { counts, ..*self };
+        }
+        if length_ms == 0 {
+            return Place {
+                since: Some(now),
+                ..*self
+            };
+        }
+        counts[slot] = true;
+        Place { counts, ..*self }
+    }
+}
+
+/// The latest of `since` and of the ends of the checks that count and are done, in ms.
+fn latest_end(
+    now: u64,
+    counts: &[bool; 8],
+    checks: &[Option<Check>; 8],
+    since: Option<u64>,
+) -> Option<u64>
+    ensures { IsMost (λ end. (since ≡ Some end) ⊎ ((slot : ℕ)
+        × IsEnded now (slice_index_or counts.now slot false) (slice_index_or checks.now slot None) end)) result }
+{
+    let mut latest = since;
+    for slot in 0..8 {
+        latest = later(latest, end_of(now, counts[slot], &checks[slot]));
+    }
+    latest
+}
+
+/// The moment has come.
+pub(crate) fn advance_each(now: u64, checks: &[Option<Check>; 8], places: &mut [Place])
+    ensures { EachFollows (PlaceFollows (AreChecks checks.now) (Advance now)) places.old places.new }
+{
+    for place in places.iter_mut() {
+        *place = place.after_advance(now, checks);
+    }
+}
+
+/// There is radar on the channel.
+pub(crate) fn meet_radar(now: u64, c: &ChanDef, places: &mut [Place])
+    requires { now ≤ 10 ^ 15 }
+    ensures { EachFollows (PlaceFollows (λ calls. now_of calls ≡ now) (Radar c.now)) places.old places.new }
+{
+    for place in places.iter_mut() {
+        *place = place.after_radar(now, c);
+    }
+}
+
+/// The region has changed.
+pub(crate) fn change_region(places: &mut [Place])
+    ensures { EachFollows (PlaceFollows (λ _. Unit {0}) RegionChanged) places.old places.new }
+{
+    for place in places.iter_mut() {
+        *place = place.after_region_change();
+    }
+}
+
+/// A check begins.
+pub(crate) fn begin_check(now: u64, slot: usize, c: &ChanDef, length_ms: u32, places: &mut [Place])
+    requires { slot < 8 }
+    ensures { EachFollows (PlaceFollows (λ calls. now_of calls ≡ now) (Begin slot c.now length_ms)) places.old places.new }
+{
+    for place in places.iter_mut() {
+        *place = place.after_begin(now, slot, c, length_ms);
+    }
+}
+
+/// What is known of the channel of this centre, in kHz. `None` exactly where it is none of these.
+pub(crate) fn place_of(khz: u32, places: &[Place]) -> Option<Place>
+    ensures { MatchOption result ((place : Place) → Contains places.now place → place.khz ≡ khz → ⊥)
+        (λ place. Contains places.now place × (place.khz ≡ khz)) }
+{
+    for place in places {
+        if place.khz == khz {
+            return Some(*place);
+        }
+    }
+    None
+}
