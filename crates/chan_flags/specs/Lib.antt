@@ -1,0 +1,6 @@
+pub mod ByRecords
+pub mod Listing
+pub mod Lists
+pub mod Profiles
+pub mod Records
+pub mod Verdicts

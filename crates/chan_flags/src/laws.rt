@@ -1,0 +1,19 @@
+//! Laws over all records and verdicts.
+
+ghost use Rattle.std.specs.Prelude.{◌≡◌, ℕ, List, Option};
+ghost use Rattle.rule_tables.specs.declared.domain.Domain.{Domain};
+ghost use Rattle.chan_flags.specs.Records.{IsRecord};
+ghost use Rattle.chan_flags.specs.Verdicts.{IsVerdict};
+ghost use Rattle.chan_flags.specs.declared.asked.Asked.{Asked};
+ghost use Rattle.chan_flags.specs.declared.record.Fit.{Fit};
+ghost use Rattle.chan_flags.specs.declared.verdict.Verdict.{Verdict};
+
+/// A channel has at most one record over a list of domains.
+pub fn one_record()
+    ensures { (ds : List Domain) (khz : ℕ) (one other : Option Fit) → IsRecord ds khz one → IsRecord ds khz other → one ≡ other }
+{}
+
+/// There is at most one verdict of a list of domains on what is asked.
+pub fn one_verdict()
+    ensures { (ds : List Domain) (q : Asked) (one other : Verdict) → IsVerdict ds q one → IsVerdict ds q other → one ≡ other }
+{}
