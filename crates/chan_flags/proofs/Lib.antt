@@ -1,0 +1,6 @@
+pub mod Covering
+pub mod Fitting
+pub mod Judged
+pub mod Known
+pub mod Listed
+pub mod Together

@@ -6,11 +6,11 @@ use Rattle.freq_range.specs.declared.channel.Band.TheVariants.{Ghz2, Ghz5, Ghz6}
 use Rattle.chan_flags.specs.Profiles.{has_band}
 use Rattle.chan_flags.specs.declared.profile.Bands.{Bands}
 
--- where the number n of the band stands among the numbers of all bands
+-- where the number n, below 234, of the band stands among the numbers of all bands
 abbrev pub place : Band → ℕ → ℕ
 place Ghz2 n = n
-place Ghz5 n = 256 + n
-place Ghz6 n = 512 + n
+place Ghz5 n = 234 + n
+place Ghz6 n = 468 + n
 
 -- this is the centre, in kHz, of a channel of the bands before the place
 abbrev pub IsChannelBefore : Bands → ℕ → ℕ → Type 0

@@ -12,15 +12,19 @@ use std::alloc::Global;
 /// The channels of the channel table: 14 in 2.4 GHz, 28 in 5 GHz and 59 in 6 GHz.
 const MOST_CHANNELS: usize = 101;
 
+/// The channel numbers are below this.
+const NUMBERS: u8 = 234;
+
 /// Appends the channels of the band, ascending, where it is one of the bands.
 fn push_band(chans: &mut Vec<Chan>, bands: Bands, band: Band) -> Result<(), OutOfMemory>
-    ensures { AreChannelsBefore bands (place band 0) (map (λ c. c.khz) chans.old.items)
-        → OnOk result (AreChannelsBefore bands (place band 256) (map (λ c. c.khz) chans.new.items)) }
+    ensures channels { AreChannelsBefore bands (place band 0) (map (λ c. c.khz) chans.old.items)
+        → OnOk result (AreChannelsBefore bands (place band 234) (map (λ c. c.khz) chans.new.items)) }
+    ensures unfit { All (λ c. c.fit ≡ None) chans.old.items → OnOk result (All (λ c. c.fit ≡ None) chans.new.items) }
 {
     if !bands.has(band) {
         return Ok(());
     }
-    for n in 0..=255u8 {
+    for n in 0..NUMBERS {
         if let Some(khz) = channel_khz(band, n) {
             chans.push(Chan { khz, fit: None })?;
         }
