@@ -3,4 +3,5 @@ pub mod Fitting
 pub mod Judged
 pub mod Known
 pub mod Listed
+pub mod OneAnswer
 pub mod Together
