@@ -5,7 +5,7 @@ use crate::verdict::PowerSetting;
 use chan_def::{ChanDef, Kind};
 
 /// A channel that is asked of a radio.
-#[derive(Clone, Copy, Debug, PartialEq, Eq)]
+#[derive(Clone, Copy)]
 pub struct Asked {
     /// What the radio can do.
     pub profile: Profile,
@@ -19,7 +19,7 @@ pub struct Asked {
 }
 
 /// What may bar a subchannel, in the order in which it is asked.
-#[derive(Clone, Copy, Debug, PartialEq, Eq)]
+#[derive(Clone, Copy)]
 pub enum Obstacle {
     /// The radio has no such channel.
     Missing,

@@ -49,13 +49,13 @@ impl Model for Profile {
     ghost invariant = { λ p. IsProfile (abilities p.bands p.width_mhz p.radar_mhz p.power_mbm p.contexts p.self_managed p.deaf) };
 
     ghost inverse = { λ a. record {
-        bands = a.bands;
-        width_mhz = a.width_mhz;
-        radar_mhz = a.radar_mhz;
-        power_mbm = a.power_mbm;
-        contexts = a.contexts;
-        self_managed = a.self_managed;
-        deaf = a.deaf;
+      bands = a.bands;
+      width_mhz = a.width_mhz;
+      radar_mhz = a.radar_mhz;
+      power_mbm = a.power_mbm;
+      contexts = a.contexts;
+      self_managed = a.self_managed;
+      deaf = a.deaf;
     } };
 }
 

@@ -10,6 +10,9 @@ ghost use Rattle.chan_flags.specs.Lists.{AreChannels};
 ghost use Rattle.chan_flags.specs.Records.{AreRecords, IsRecord, IsRowFit};
 ghost use Rattle.chan_flags.specs.Verdicts.{asked, IsBound, IsMissing, IsVerdict};
 
+#[cfg(test)]
+mod tests;
+
 use crate::asked::Asked;
 use crate::channels::channels_of;
 use crate::judge::verdict_by;
@@ -126,9 +129,10 @@ impl RadioChans {
         self.profile
     }
 
-    /// How many channels there are.
+    /// How many channels there are: all of the radio's bands.
     pub fn len(&self) -> usize
-        ensures { result ≡ length self.now.chans }
+        ensures len { result ≡ length self.now.chans }
+        ensures channels { AreChannels self.now.profile.bands (map (λ c. c.khz) self.now.chans) }
     {
         self.chans.len()
     }
