@@ -16,7 +16,7 @@ ghz5_most n (inl step) = let last = step.to_last in omega (arith, last)
 ghz5_most n (inr (inl step)) = let last = step.to_last in omega (arith, last)
 ghz5_most n (inr (inr step)) = step.to_last
 
-number_small : (band : Band) (n khz : ℕ) → IsChannel band n khz → n < 234
+pub number_small : (band : Band) (n khz : ℕ) → IsChannel band n khz → n < 234
 number_small Ghz2 n khz (inl is) = let most = is.1 in omega (arith, most)
 number_small Ghz2 n khz (inr is) = let most = is.0 in omega (arith, most)
 number_small Ghz5 n khz is = let most = ghz5_most n is.0 in omega (arith, most)

@@ -20,7 +20,7 @@ governs_once rules s j k a b = elim (cases_order j k) [
   | inr (inr more) ↦ absurd (a.none_before k more b.here)
 ]
 
-one_governing : (d : Domain) (s : ℕ) (g h : Choice) → IsGoverning d s g → IsGoverning d s h → g ≡ h
+pub one_governing : (d : Domain) (s : ℕ) (g h : Choice) → IsGoverning d s g → IsGoverning d s h → g ≡ h
 one_governing d s g h a b = IsChoice-unique d.rules g h a.0 b.0 (governs_once d.rules s g.number h.number a.1 b.1)
 
 cons_same : {X : Type 0} (x y : X) (xs ys : List X) → x ≡ y → xs ≡ ys → x ∷ xs ≡ y ∷ ys

@@ -1,4 +1,5 @@
 pub mod ByRecords
+pub mod Fits
 pub mod Listing
 pub mod Lists
 pub mod Profiles

@@ -1,12 +1,14 @@
 //! Laws over all records and verdicts.
 
-ghost use Rattle.std.specs.Prelude.{◌≡◌, ℕ, List, Option};
+ghost use Rattle.std.specs.Prelude.{◌≡◌, ◌↔◌, ℕ, List, Option};
 ghost use Rattle.rule_tables.specs.declared.domain.Domain.{Domain};
+ghost use Rattle.chan_flags.specs.Fits.{IsGranting};
 ghost use Rattle.chan_flags.specs.Records.{IsRecord};
 ghost use Rattle.chan_flags.specs.Verdicts.{IsVerdict};
 ghost use Rattle.chan_flags.specs.declared.asked.Asked.{Asked};
 ghost use Rattle.chan_flags.specs.declared.record.Fit.{Fit};
 ghost use Rattle.chan_flags.specs.declared.verdict.Verdict.{Verdict};
+ghost use Rattle.chan_flags.specs.declared.verdict.Verdict.TheVariants.{Fits};
 
 /// A channel has at most one record over a list of domains.
 pub fn one_record()
@@ -16,4 +18,10 @@ pub fn one_record()
 /// There is at most one verdict of a list of domains on what is asked.
 pub fn one_verdict()
     ensures { (ds : List Domain) (q : Asked) (one other : Verdict) → IsVerdict ds q one → IsVerdict ds q other → one ≡ other }
+{}
+
+/// A channel is allowed exactly where the radio has its subchannels and its width, each subchannel
+/// fits the governing rule of each domain, and a fixed power is within the limit.
+pub fn allowed_where_it_fits()
+    ensures { (ds : List Domain) (q : Asked) (mbm ms : ℕ) → IsVerdict ds q (Fits mbm ms) ↔ IsGranting ds q mbm ms }
 {}
