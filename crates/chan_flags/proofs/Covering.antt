@@ -1,12 +1,12 @@
 -- Going over the subchannels of a channel from the lowest one.
-use Rattle.std.proofs.Common.{◌≡◌, ℕ, ◌+◌, ◌/◌, ◌<◌, ◌≤◌, arith, subst, sym}
+use Rattle.std.proofs.Common.{◌≡◌, ℕ, ◌+◌, ◌/◌, ◌<◌, ◌≤◌, arith, subst}
 use Rattle.std.proofs.lemmas.Bool.{cases_lt}
 use Rattle.std.proofs.Common.{inl, inr}
 use Rattle.chan_def.specs.Covered.{width_khz, IsCovered, IsSubchannel}
 use Rattle.chan_def.specs.declared.definition.ChanDef.{ChanDef}
 use Rattle.chan_def.specs.declared.width.Width.{Width}
 use Rattle.chan_def.specs.declared.width.Width.TheVariants.{Noht, W20, W40, W80, W160}
-use Rattle.chan_flags.specs.Verdicts.{BarsFirst, BarsNone}
+use Rattle.chan_flags.specs.Verdicts.{BarsFirst}
 
 -- P holds of the first n subchannels
 abbrev pub EachBelow : (ℕ → Type 0) → ChanDef → ℕ → Type 0

@@ -1,5 +1,5 @@
 -- What holds of the record of a channel.
-use Rattle.std.proofs.Common.{◌≡◌, ℕ, ◌+◌, ◌<◌, ◌≤◌, ◌⊎◌, IfSome, IsTrue, List, Option, Some, None, arith, refl, sym, subst, inl, inr, ◌∙◌}
+use Rattle.std.proofs.Common.{◌≡◌, ℕ, ◌+◌, ◌⊎◌, IfSome, List, Option, Some, None, sym, subst, inl, inr, ◌∙◌}
 use Rattle.chan_def.specs.Covered.{width_khz, IsCovered, IsSubchannel}
 use Rattle.chan_def.specs.declared.definition.ChanDef.{ChanDef}
 use Rattle.chan_flags.specs.ByRecords.{channel_at, FitHas, IfFit}

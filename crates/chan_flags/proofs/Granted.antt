@@ -1,11 +1,10 @@
 -- A channel is allowed exactly where it fits the rules of all domains, a fixed power being within the limit.
-use Rattle.std.proofs.Common.{◌≡◌, ℕ, ◌*◌, ◌<◌, ◌≤◌, ◌⊎◌, min, Bool, true, false, IsTrue, List, Contains, arith, refl, sym, subst, ap, ◌∙◌, inl, inr}
+use Rattle.std.proofs.Common.{◌≡◌, ℕ, ◌≤◌, Bool, true, false, List, Contains, arith, sym, subst, ◌∙◌, inl, inr}
 use Rattle.std.proofs.lemmas.Bool.{cases_Bool, cases_lt, true≢false}
 use Rattle.rule_tables.specs.declared.domain.Domain.{Domain}
 use Rattle.rule_tables.proofs.Governed.{governs_or_none}
 use Rattle.rule_tables.proofs.Widths.{some_width}
 use Rattle.chan_def.specs.Covered.{width_khz, IsCovered}
-use Rattle.chan_def.specs.Kinds.{initiates}
 use Rattle.chan_def.specs.declared.width.Width.{Width}
 use Rattle.chan_def.specs.declared.width.Width.TheVariants.{Noht, W20, W40, W80, W160}
 use Rattle.rule_intersect.specs.Subchannels.{SomeLacksRule}
@@ -13,7 +12,7 @@ use Rattle.rule_intersect.specs.Tuples.{Choice}
 use Rattle.rule_intersect.proofs.OwnRows.{element_at}
 use Rattle.chan_flags.specs.Fits.{FitsRule, IsFitting, IsGranting}
 use Rattle.chan_flags.specs.Lists.{IsRadioChannel}
-use Rattle.chan_flags.specs.Verdicts.{power_of, Bars, BarsNone, IsAllowed, IsGoverning, IsLength, IsLimit, IsMissing, IsVerdict, IsWithin, SomeGoverning}
+use Rattle.chan_flags.specs.Verdicts.{power_of, Bars, BarsNone, IsAllowed, IsGoverning, IsLength, IsLimit, IsMissing, IsVerdict, IsWithin}
 use Rattle.chan_flags.specs.declared.asked.Asked.{Asked}
 use Rattle.chan_flags.specs.declared.asked.Obstacle.TheVariants.{Missing, Unruled, Narrow, OfdmBarred, IrBarred, OutdoorBarred}
 use Rattle.chan_flags.specs.declared.profile.Bands.{Bands}

@@ -1,5 +1,5 @@
 -- The verdict of the records is that of all domains.
-use Rattle.std.proofs.Common.{◌≡◌, ℕ, ◌<◌, ◌≤◌, ◌⊎◌, ◌==◌, ◌*◌, Bool, false, cond, IsTrue, Option, Some, None, List, [], ◌∷◌, map, length, Contains, arith, refl, sym, subst, ap, ◌∙◌, inl, inr}
+use Rattle.std.proofs.Common.{◌≡◌, ℕ, ◌<◌, ◌≤◌, ◌⊎◌, ◌==◌, ◌*◌, Bool, false, cond, IsTrue, Some, List, [], ◌∷◌, map, length, Contains, arith, refl, sym, subst, ap, ◌∙◌, inl, inr}
 use Rattle.std.proofs.lemmas.Bool.{cases_Bool}
 use Rattle.freq_range.specs.declared.rule.Rule.{Rule}
 use Rattle.rule_tables.specs.declared.domain.Domain.{Domain}
@@ -16,7 +16,6 @@ use Rattle.chan_flags.specs.declared.asked.Obstacle.{Obstacle}
 use Rattle.chan_flags.specs.declared.asked.Obstacle.TheVariants.{Missing, Unruled, Narrow, OfdmBarred, IrBarred, OutdoorBarred}
 use Rattle.chan_flags.specs.declared.profile.Bands.{Bands}
 use Rattle.chan_flags.specs.declared.record.Chan.{Chan}
-use Rattle.chan_flags.specs.declared.record.Fit.{Fit}
 use Rattle.chan_flags.specs.declared.verdict.ChanRefusal.{ChanRefusal}
 use Rattle.chan_flags.specs.declared.verdict.ChanRefusal.TheVariants.{LacksChannel, LacksWidth, NoRule, TooNarrow, NoOfdm, NoIr, NoOutdoor, AboveLimit}
 use Rattle.chan_flags.specs.declared.verdict.Verdict.{Verdict}

@@ -1,10 +1,8 @@
 -- There is one record of a channel and one verdict on what is asked.
-use Rattle.std.proofs.Common.{◌≡◌, ℕ, ◌+◌, ◌*◌, ◌<◌, ◌≤◌, ◌⊎◌, IsTrue, Option, Some, None, List, [], ◌∷◌, Contains, arith, refl, sym, ap, ◌∙◌, subst, inl, inr}
+use Rattle.std.proofs.Common.{◌≡◌, ℕ, ◌<◌, ◌≤◌, Option, Some, None, List, arith, refl, sym, ap, ◌∙◌, subst, inl, inr}
 use Rattle.std.proofs.lemmas.Bool.{cases_order}
 use Rattle.rule_tables.specs.declared.domain.Domain.{Domain}
-use Rattle.chan_def.specs.Covered.{width_khz, IsCovered}
 use Rattle.chan_def.specs.declared.definition.ChanDef.{ChanDef}
-use Rattle.rule_intersect.specs.Tuples.{Choice, check_ms}
 use Rattle.chan_flags.specs.Records.{fit_of, IsRecord}
 use Rattle.chan_flags.specs.Verdicts.{power_of, BarsFirst, BarsNone, HasWidth, IsAbove, IsLength, IsLimit, IsVerdict, IsVerdictOf, IsWithin, Bars}
 use Rattle.chan_flags.specs.declared.asked.Asked.{Asked}

@@ -1,4 +1,4 @@
-use Rattle.std.proofs.Common.{◌≡◌, None, map, refl, sym}
+use Rattle.std.proofs.Common.{◌≡◌, None, refl, sym}
 use Rattle.std.proofs.lemmas.List.{map-append}
 use Rattle.std.proofs.lemmas.List.Elements.{All-push}
 use Rattle.chan_flags.specs.declared.record.Chan.{Chan}

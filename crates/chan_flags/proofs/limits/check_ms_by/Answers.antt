@@ -1,4 +1,4 @@
-use Rattle.std.proofs.Common.{◌≡◌, ◌≤◌, ℕ, IsTrue, arith}
+use Rattle.std.proofs.Common.{◌≡◌, ◌≤◌, IsTrue, arith}
 use Rattle.chan_flags.proofs.Covering.{each_covered, each_covered_of_eight}
 use Rattle.chan_flags.proofs.Fitting.{EachBelow-fit, one_of_records}
 use Rattle.chan_flags.specs.ByRecords.{channel_at, IfFit}
