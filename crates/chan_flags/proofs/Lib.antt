@@ -6,4 +6,5 @@ pub mod Known
 pub mod Listed
 pub mod OneAnswer
 pub mod Told
+pub mod Searched
 pub mod Together

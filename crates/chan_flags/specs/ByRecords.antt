@@ -1,5 +1,5 @@
 -- Whether the records of a radio's channels allow a channel.
-use Rattle.std.specs.Prelude.{◌≡◌, ℕ, ◌==◌, ◌<◌, ◌≤◌, ◌⊎◌, List, find, false, Option, None, Some, IfSome, IsNone, IsSomeAnd, IsTrue}
+use Rattle.std.specs.Prelude.{◌≡◌, ℕ, ◌==◌, ◌<◌, ◌≤◌, ◌⊎◌, List, find, map, AllPairs, false, Option, None, Some, IfSome, IsNone, IsSomeAnd, IsTrue}
 use Rattle.chan_def.specs.Covered.{width_khz, IsCovered}
 use Rattle.chan_def.specs.Kinds.{initiates}
 use Rattle.chan_flags.specs.Verdicts.{IsVerdictOf}
@@ -9,6 +9,10 @@ use Rattle.chan_flags.specs.declared.asked.Obstacle.TheVariants.{Missing, Unrule
 use Rattle.chan_flags.specs.declared.record.Chan.{Chan}
 use Rattle.chan_flags.specs.declared.record.Fit.{Fit}
 use Rattle.chan_flags.specs.declared.verdict.Verdict.{Verdict}
+
+-- each centre is above the one before
+abbrev pub AreAscending : List Chan → Type 0
+AreAscending chans = AllPairs (λ low high. low < high) (map (λ chan. chan.khz) chans)
 
 -- the radio's channel with this centre, in kHz
 abbrev pub channel_at : List Chan → ℕ → Option Chan

@@ -3,7 +3,7 @@
 ghost use Rattle.std.specs.Prelude.{◌≡◌, ◌↔◌, IsTrue, MatchOption, Some};
 ghost use Rattle.std.specs.Option.{option_copied};
 ghost use Rattle.chan_def.specs.Covered.{IsValidDef};
-ghost use Rattle.chan_flags.specs.ByRecords.{channel_at, BarsBy, BarsChannel};
+ghost use Rattle.chan_flags.specs.ByRecords.{channel_at, AreAscending, BarsBy, BarsChannel};
 ghost use Rattle.chan_flags.specs.Verdicts.{BarsFirst, BarsNone};
 
 use crate::asked::{Asked, Obstacle};
@@ -15,9 +15,13 @@ pub const MOST_SUBCHANNELS: u8 = 8;
 
 /// The radio's channel with this centre, in kHz.
 pub fn channel_at(chans: &[Chan], khz: u32) -> Option<&Chan>
+    requires { AreAscending chans.now }
     ensures { option_copied result ≡ channel_at chans.now khz }
 {
-    chans.iter().find(|chan| chan.khz == khz)
+    match chans.binary_search_by_key(&khz, |chan| chan.khz) {
+        Ok(place) => Some(&chans[place]),
+        Err(_place) => None,
+    }
 }
 
 /// Whether the obstacle bars a channel with this record.
@@ -50,7 +54,8 @@ fn bars(asked: &Asked, obstacle: Obstacle, chan: Option<&Chan>) -> bool
 
 /// The lowest subchannel, by its centre in kHz, that the obstacle bars.
 pub fn lowest_barred(chans: &[Chan], asked: &Asked, obstacle: Obstacle) -> Option<u32>
-    requires { IsValidDef asked.now.chan }
+    requires valid { IsValidDef asked.now.chan }
+    requires ascending { AreAscending chans.now }
     ensures { MatchOption result (BarsNone (BarsBy chans.now asked.now obstacle) asked.now.chan)
         (BarsFirst (BarsBy chans.now asked.now obstacle) asked.now.chan) }
 {

@@ -2,7 +2,7 @@
 
 ghost use Rattle.std.specs.Prelude.{◌≡◌, ◌*◌, [], ◌∷◌, MatchOption};
 ghost use Rattle.chan_def.specs.Covered.{width_khz, IsValidDef};
-ghost use Rattle.chan_flags.specs.ByRecords.{BarsBy, IsLimitBy, IsVerdictBy};
+ghost use Rattle.chan_flags.specs.ByRecords.{AreAscending, BarsBy, IsLimitBy, IsVerdictBy};
 ghost use Rattle.chan_flags.specs.Verdicts.{power_of, HasWidth, IsAbove, IsRefusal, IsWithin, NoneBars};
 ghost use Rattle.chan_flags.specs.declared.asked.Obstacle.TheVariants.{Missing, Unruled, Narrow, OfdmBarred, IrBarred, OutdoorBarred};
 
@@ -27,7 +27,8 @@ fn width_mhz(width: Width) -> u16
 
 /// The refusal for what the radio lacks.
 fn radio_refusal(chans: &[Chan], asked: &Asked) -> Option<ChanRefusal>
-    requires { IsValidDef asked.now.chan }
+    requires valid { IsValidDef asked.now.chan }
+    requires ascending { AreAscending chans.now }
     ensures { MatchOption result
         (HasWidth asked.now × NoneBars (BarsBy chans.now asked.now) asked.now.chan (Missing ∷ []))
         (IsRefusal (BarsBy chans.now asked.now) (IsLimitBy chans.now asked.now) asked.now) }
@@ -44,6 +45,7 @@ fn radio_refusal(chans: &[Chan], asked: &Asked) -> Option<ChanRefusal>
 /// The refusal for rules that are missing or too narrow, where the radio lacks nothing.
 fn width_refusal(chans: &[Chan], asked: &Asked) -> Option<ChanRefusal>
     requires valid { IsValidDef asked.now.chan }
+    requires ascending { AreAscending chans.now }
     requires width { HasWidth asked.now }
     requires none_bars { NoneBars (BarsBy chans.now asked.now) asked.now.chan (Missing ∷ []) }
     ensures { MatchOption result
@@ -62,6 +64,7 @@ fn width_refusal(chans: &[Chan], asked: &Asked) -> Option<ChanRefusal>
 /// The refusal for a flag, where the rules are there and wide enough.
 fn flag_refusal(chans: &[Chan], asked: &Asked) -> Option<ChanRefusal>
     requires valid { IsValidDef asked.now.chan }
+    requires ascending { AreAscending chans.now }
     requires width { HasWidth asked.now }
     requires none_bars { NoneBars (BarsBy chans.now asked.now) asked.now.chan (Missing ∷ Unruled ∷ Narrow ∷ []) }
     ensures { MatchOption result
@@ -96,6 +99,7 @@ fn power_under(setting: PowerSetting, limit_mbm: u16) -> Option<u16>
 /// The verdict where no obstacle bars a subchannel: a fixed power may be too much.
 fn power_verdict(chans: &[Chan], asked: &Asked) -> Verdict
     requires valid { IsValidDef asked.now.chan }
+    requires ascending { AreAscending chans.now }
     requires width { HasWidth asked.now }
     requires none_bars { NoneBars (BarsBy chans.now asked.now) asked.now.chan (Missing ∷ Unruled ∷ Narrow ∷ OfdmBarred ∷ IrBarred ∷ OutdoorBarred ∷ []) }
     ensures { IsVerdictBy chans.now asked.now result }
@@ -112,7 +116,8 @@ fn power_verdict(chans: &[Chan], asked: &Asked) -> Verdict
 
 /// The verdict of the records.
 pub fn verdict_by(chans: &[Chan], asked: &Asked) -> Verdict
-    requires { IsValidDef asked.now.chan }
+    requires valid { IsValidDef asked.now.chan }
+    requires ascending { AreAscending chans.now }
     ensures { IsVerdictBy chans.now asked.now result }
 {
     if let Some(refusal) = radio_refusal(chans, asked) {

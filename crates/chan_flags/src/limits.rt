@@ -3,7 +3,7 @@
 ghost use Rattle.std.specs.Prelude.{◌≡◌, ◌≤◌, ◌⊎◌, ◌↔◌, IsTrue};
 ghost use Rattle.std.specs.Option.{option_copied};
 ghost use Rattle.chan_def.specs.Covered.{IsValidDef};
-ghost use Rattle.chan_flags.specs.ByRecords.{FitHas, IfFit, IsBoundBy, IsLengthBy, IsLimitBy};
+ghost use Rattle.chan_flags.specs.ByRecords.{AreAscending, FitHas, IfFit, IsBoundBy, IsLengthBy, IsLimitBy};
 
 use crate::asked::Asked;
 use crate::barred::{MOST_SUBCHANNELS, channel_at};
@@ -37,7 +37,8 @@ fn greater_length(length_ms: u32, chan: Option<&Chan>) -> u32
 
 /// The greatest power, in mBm (EIRP), that the radio and the records of all subchannels allow.
 pub fn limit_mbm_by(chans: &[Chan], asked: &Asked) -> u16
-    requires { IsValidDef asked.now.chan }
+    requires valid { IsValidDef asked.now.chan }
+    requires ascending { AreAscending chans.now }
     ensures { IsLimitBy chans.now asked.now result }
 {
     let mut limit_mbm = asked.profile.power_mbm();
@@ -53,7 +54,8 @@ pub fn limit_mbm_by(chans: &[Chan], asked: &Asked) -> u16
 /// The longest check for radar, in ms, among the records with DFS of all subchannels, or 0 where
 /// none has it.
 pub fn check_ms_by(chans: &[Chan], asked: &Asked) -> u32
-    requires { IsValidDef asked.now.chan }
+    requires valid { IsValidDef asked.now.chan }
+    requires ascending { AreAscending chans.now }
     ensures { IsLengthBy chans.now asked.now result }
 {
     let mut length_ms = 0;
@@ -68,6 +70,7 @@ pub fn check_ms_by(chans: &[Chan], asked: &Asked) -> u32
 
 /// Whether the channel has a record with DFS.
 pub fn is_bound_by(chans: &[Chan], khz: u32) -> bool
+    requires { AreAscending chans.now }
     ensures { IsTrue result ↔ IsBoundBy chans.now khz }
 {
     match channel_at(chans, khz) {
