@@ -1,13 +1,15 @@
 -- There is one record of a channel and one verdict on what is asked.
-use Rattle.std.proofs.Common.{◌≡◌, ℕ, ◌<◌, ◌≤◌, Option, Some, None, List, arith, refl, sym, ap, ◌∙◌, subst, inl, inr}
+use Rattle.std.proofs.Common.{◌≡◌, ℕ, ◌<◌, ◌≤◌, Option, Some, None, List, arith, refl, sym, ap, ◌∙◌, subst, inl, inr, IsTrue, IfSome, IsSomeAnd}
 use Rattle.std.proofs.lemmas.Bool.{cases_order}
 use Rattle.rule_tables.specs.declared.domain.Domain.{Domain}
 use Rattle.chan_def.specs.declared.definition.ChanDef.{ChanDef}
+use Rattle.chan_flags.specs.ByRecords.{channel_at, BarsBy, FitHas, IfFit, IsLengthBy, IsLimitBy, IsVerdictBy}
 use Rattle.chan_flags.specs.Records.{fit_of, IsRecord}
 use Rattle.chan_flags.specs.Verdicts.{power_of, BarsFirst, BarsNone, HasWidth, IsAbove, IsLength, IsLimit, IsVerdict, IsVerdictOf, IsWithin, Bars}
 use Rattle.chan_flags.specs.declared.asked.Asked.{Asked}
 use Rattle.chan_flags.specs.declared.asked.Obstacle.{Obstacle}
 use Rattle.chan_flags.specs.declared.asked.Obstacle.TheVariants.{Missing, Unruled, Narrow, OfdmBarred, IrBarred, OutdoorBarred}
+use Rattle.chan_flags.specs.declared.record.Chan.{Chan}
 use Rattle.chan_flags.specs.declared.record.Fit.{Fit}
 use Rattle.chan_flags.specs.declared.verdict.ChanRefusal.{ChanRefusal}
 use Rattle.chan_flags.specs.declared.verdict.ChanRefusal.TheVariants.{LacksChannel, LacksWidth, NoRule, TooNarrow, NoOfdm, NoIr, NoOutdoor, AboveLimit}
@@ -47,6 +49,48 @@ IsLength-unique : (ds : List Domain) (q : Asked) (a b : ℕ) → IsLength ds q a
 IsLength-unique ds q a b is other =
     let to = length-le ds q a b is other in
     let from = length-le ds q b a other is in
+    omega (arith, to, from)
+
+-- the same of records
+
+both_of_fit : (P Q : Fit → Type 0) (o : Option Chan) → FitHas P o → IfFit Q o → (fit : Fit) × P fit × Q fit
+both_of_fit P Q None has each = absurd has
+both_of_fit P Q (Some chan) has each = of_fit chan.fit has each
+  where
+    of_fit : (o : Option Fit) → IsSomeAnd o P → IfSome o Q → (fit : Fit) × P fit × Q fit
+    of_fit None has each = absurd has
+    of_fit (Some fit) has each = (fit, has, each)
+
+limit_by-le : (chans : List Chan) (q : Asked) (a b : ℕ) → IsLimitBy chans q a → IsLimitBy chans q b → a ≤ b
+limit_by-le chans q a b is other = elim other.least [
+  | inl radio ↦ let most = is.radio in omega (arith, radio, most)
+  | inr (s, covered, here) ↦
+      let found = both_of_fit (λ fit. b ≡ fit.limit_mbm) (λ fit. a ≤ fit.limit_mbm) (channel_at chans s) here (is.records s covered) in
+      let same = found.1 in
+      let most = found.2 in
+      omega (arith, same, most)
+]
+
+IsLimitBy-unique : (chans : List Chan) (q : Asked) (a b : ℕ) → IsLimitBy chans q a → IsLimitBy chans q b → a ≡ b
+IsLimitBy-unique chans q a b is other =
+    let to = limit_by-le chans q a b is other in
+    let from = limit_by-le chans q b a other is in
+    omega (arith, to, from)
+
+length_by-le : (chans : List Chan) (q : Asked) (a b : ℕ) → IsLengthBy chans q a → IsLengthBy chans q b → a ≤ b
+length_by-le chans q a b is other = elim is.greatest [
+  | inl none ↦ omega (arith, none)
+  | inr (s, covered, here) ↦
+      let found = both_of_fit (λ fit. IsTrue fit.flags.dfs × (a ≡ fit.check_ms)) (λ fit. IsTrue fit.flags.dfs → fit.check_ms ≤ b) (channel_at chans s) here (other.records s covered) in
+      let same = found.1.1 in
+      let least = found.2 found.1.0 in
+      omega (arith, same, least)
+]
+
+IsLengthBy-unique : (chans : List Chan) (q : Asked) (a b : ℕ) → IsLengthBy chans q a → IsLengthBy chans q b → a ≡ b
+IsLengthBy-unique chans q a b is other =
+    let to = length_by-le chans q a b is other in
+    let from = length_by-le chans q b a other is in
     omega (arith, to, from)
 
 above_or_within : (setting : PowerSetting) (limit : ℕ) → IsAbove setting limit → IsWithin setting limit → ⊥
@@ -178,9 +222,16 @@ same_place B L N q one_limit one_length (Fits power length) (Refused r) is other
 same_place B L N q one_limit one_length (Refused r) (Fits power length) is other same = absurd (let most = refused-le r in omega (arith, most, same))
 same_place B L N q one_limit one_length v w is other same = absurd (omega arith)
 
-pub IsVerdict-unique : (ds : List Domain) (q : Asked) (v w : Verdict) → IsVerdict ds q v → IsVerdict ds q w → v ≡ w
-IsVerdict-unique ds q v w is other = elim (cases_order (place v) (place w)) [
-  | inl same ↦ same_place (Bars ds q) (IsLimit ds q) (IsLength ds q) q (IsLimit-unique ds q) (IsLength-unique ds q) v w is other same
-  | inr (inl less) ↦ absurd (not_before (Bars ds q) (IsLimit ds q) (IsLength ds q) q (IsLimit-unique ds q) v w is other less)
-  | inr (inr more) ↦ absurd (not_before (Bars ds q) (IsLimit ds q) (IsLength ds q) q (IsLimit-unique ds q) w v other is more)
+one_verdict : (B : Obstacle → ℕ → Type 0) (L N : ℕ → Type 0) (q : Asked) → ((a b : ℕ) → L a → L b → a ≡ b) → ((a b : ℕ) → N a → N b → a ≡ b) → (v w : Verdict)
+    → IsVerdictOf B L N q v → IsVerdictOf B L N q w → v ≡ w
+one_verdict B L N q one_limit one_length v w is other = elim (cases_order (place v) (place w)) [
+  | inl same ↦ same_place B L N q one_limit one_length v w is other same
+  | inr (inl less) ↦ absurd (not_before B L N q one_limit v w is other less)
+  | inr (inr more) ↦ absurd (not_before B L N q one_limit w v other is more)
 ]
+
+pub IsVerdict-unique : (ds : List Domain) (q : Asked) (v w : Verdict) → IsVerdict ds q v → IsVerdict ds q w → v ≡ w
+IsVerdict-unique ds q v w is other = one_verdict (Bars ds q) (IsLimit ds q) (IsLength ds q) q (IsLimit-unique ds q) (IsLength-unique ds q) v w is other
+
+pub IsVerdictBy-unique : (chans : List Chan) (q : Asked) (v w : Verdict) → IsVerdictBy chans q v → IsVerdictBy chans q w → v ≡ w
+IsVerdictBy-unique chans q v w is other = one_verdict (BarsBy chans q) (IsLimitBy chans q) (IsLengthBy chans q) q (IsLimitBy-unique chans q) (IsLengthBy-unique chans q) v w is other

@@ -196,15 +196,18 @@ fn one_country_gives_each_channel_its_governing_rule(rt: HostRuntime) -> Result<
     Ok(())
 }
 
-#[test]
-fn two_countries_give_a_verdict_of_each_kind(rt: HostRuntime) -> Result<(), Fail> {
-    let table = next(
-        &first(rt.alloc(), &country(rt.alloc())?)?,
-        &neighbour(rt.alloc())?,
-    )?;
-    let mut chans = RadioChans::new(rt.alloc(), profile(&rt, 80, 2200))?;
+/// A radio of 2200 mBm, 80 MHz wide, under the country and its neighbour.
+fn under_both(rt: &impl Abort, alloc: Global) -> Result<RadioChans, Fail> {
+    let table = next(&first(alloc, &country(alloc)?)?, &neighbour(alloc)?)?;
+    let mut chans = RadioChans::new(alloc, profile(rt, 80, 2200))?;
     chans.refresh(&table);
-    let outdoors = [
+    Ok(chans)
+}
+
+#[test]
+fn each_refusal_names_its_lowest_subchannel(rt: HostRuntime) -> Result<(), Fail> {
+    let chans = under_both(&rt, rt.alloc())?;
+    let refusals = [
         // A channel that the radio lacks comes before the rule that is too narrow below it.
         (
             channel(2457, Width::W40, 2467),
@@ -235,20 +238,24 @@ fn two_countries_give_a_verdict_of_each_kind(rt: HostRuntime) -> Result<(), Fail
             ChanRefusal::NoOutdoor(5_180_000),
         ),
     ];
-    for (c, refusal) in outdoors {
+    for (c, refusal) in refusals {
         let found = judged(&rt, &chans, &c, Kind::Ap, false, PowerSetting::Auto);
         assert_eq!(rt; found, Verdict::Refused(refusal));
     }
+    Ok(())
+}
+
+#[test]
+fn powers_and_checks_of_two_countries(rt: HostRuntime) -> Result<(), Fail> {
+    let chans = under_both(&rt, rt.alloc())?;
     // The country's 2300 mBm, the neighbour's 2100 and the radio's 2200.
     let wide = channel(5220, Width::W80, 5210);
+    let above = Verdict::Refused(ChanRefusal::AboveLimit(2100));
     let powers = [
         (PowerSetting::Auto, fits(2100, 0)),
         (PowerSetting::Limit(1500), fits(1500, 0)),
         (PowerSetting::Fixed(2100), fits(2100, 0)),
-        (
-            PowerSetting::Fixed(2101),
-            Verdict::Refused(ChanRefusal::AboveLimit(2100)),
-        ),
+        (PowerSetting::Fixed(2101), above),
     ];
     for (setting, verdict) in powers {
         let found = judged(&rt, &chans, &wide, Kind::Ap, true, setting);
@@ -258,8 +265,7 @@ fn two_countries_give_a_verdict_of_each_kind(rt: HostRuntime) -> Result<(), Fail
     let checked = channel(5260, Width::W40, 5270);
     let found = judged(&rt, &chans, &checked, Kind::Mesh, false, PowerSetting::Auto);
     assert_eq!(rt; found, fits(2000, 600_000));
-    assert!(rt; chans.is_bound(5_260_000));
-    assert!(rt; !chans.is_bound(5_180_000));
+    assert!(rt; chans.is_bound(5_260_000) && !chans.is_bound(5_180_000));
     // A station and a monitor don't send first, so NO-IR doesn't bar them. The power is the radio's.
     let quiet = channel(5745, Width::Noht, 5745);
     for kind in [Kind::Station, Kind::Monitor] {
