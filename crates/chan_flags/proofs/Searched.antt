@@ -1,5 +1,5 @@
 -- A search by halves among channels that ascend finds what a walk from the front finds.
-use Rattle.std.proofs.Common.{◌≡◌, ◌==◌, ℕ, zero, suc, ◌<◌, ◌≤◌, ◌⊎◌, cond, Some, None, Result, Ok, Err, MatchResult, List, [], ◌∷◌, map, length, get_or, slice_get, All, AllPairs, arith, refl, sym, subst, ap, ◌∙◌, inl, inr}
+use Rattle.std.proofs.Common.{◌≡◌, ◌==◌, ℕ, zero, suc, ◌<◌, ◌≤◌, cond, Some, None, Result, Ok, Err, MatchResult, List, [], ◌∷◌, length, get_or, slice_get, All, arith, refl, sym, subst, ap, ◌∙◌, inl, inr}
 use Rattle.std.specs.List.Sorted.{IsSearchInRange, IsBinarySearchResult, IsNonDecreasingBy}
 use Rattle.std.specs.Ordering.{nat_cmp, ordering_index}
 use Rattle.std.proofs.lemmas.Bool.{cases_Bool, cases_lt, cases_order, eqb-true, eq-eqb}
