@@ -1,7 +1,7 @@
 //! What a radio can do.
 
-ghost use Rattle.std.specs.Prelude.{◌≡◌, ◌≤◌, IsTrue, IfSome, MatchOption};
-ghost use Rattle.chan_flags.specs.Profiles.{has_band, has_some, is_width, abilities, IsProfile};
+ghost use Rattle.std.specs.Prelude.{◌≡◌, ◌==◌, ◌||◌, ◌≤◌, IsTrue, IfSome, MatchOption};
+ghost use Rattle.chan_flags.specs.Profiles.{has_band, is_width, abilities, IsProfile};
 
 use freq_range::Band;
 use std::marker::Model;
@@ -105,7 +105,7 @@ impl Profile {
     /// Its bands, at least one.
     pub fn bands(&self) -> Bands
         ensures bands { result ≡ self.now.bands }
-        ensures some { IsTrue (has_some result) }
+        ensures valid { IsProfile self.now }
     {
         self.bands
     }
@@ -120,7 +120,8 @@ impl Profile {
 
     /// Its greatest width, in MHz, on a channel that is checked for radar, 0 where it can't check.
     pub fn radar_mhz(&self) -> u16
-        ensures { result ≡ self.now.radar_mhz }
+        ensures radar { result ≡ self.now.radar_mhz }
+        ensures known { IsTrue (result == 0 || is_width result) }
     {
         self.radar_mhz
     }
