@@ -12,7 +12,7 @@ use Rattle.rule_intersect.specs.Tuples.{Choice}
 use Rattle.rule_intersect.proofs.OwnRows.{element_at}
 use Rattle.chan_flags.specs.Fits.{FitsRule, IsFitting, IsGranting}
 use Rattle.chan_flags.specs.Lists.{IsRadioChannel}
-use Rattle.chan_flags.specs.Verdicts.{power_of, Bars, BarsNone, IsAllowed, IsGoverning, IsLength, IsLimit, IsMissing, IsVerdict, IsWithin}
+use Rattle.chan_flags.specs.Verdicts.{power_of, Bars, BarsNone, IsAllowed, IsGoverning, IsCheckLength, IsLimit, IsMissing, IsVerdict, IsWithin}
 use Rattle.chan_flags.specs.declared.asked.Asked.{Asked}
 use Rattle.chan_flags.specs.declared.asked.Obstacle.TheVariants.{Missing, Unruled, Narrow, OfdmBarred, IrBarred, OutdoorBarred}
 use Rattle.chan_flags.specs.declared.profile.Bands.{Bands}
@@ -52,7 +52,7 @@ power_within Auto limit within = omega arith
 power_within (Limit power) limit within = omega arith
 power_within (Fixed power) limit within = within
 
-fits_rule : (ds : List Domain) (q : Asked) (mbm ms : ℕ) → IsAllowed (Bars ds q) (IsLimit ds q) (IsLength ds q) q mbm ms
+fits_rule : (ds : List Domain) (q : Asked) (mbm ms : ℕ) → IsAllowed (Bars ds q) (IsLimit ds q) (IsCheckLength ds q) q mbm ms
     → (s : ℕ) (d : Domain) (g : Choice) → IsCovered q.chan s → Contains ds d → IsGoverning d s g → FitsRule q mbm g
 fits_rule ds q mbm ms is s d g covered has governs = record {
   width = elim (cases_lt g.width_khz (width_khz q.chan.width)) [

@@ -7,10 +7,10 @@ use Rattle.chan_def.specs.Covered.{width_khz, IsCovered}
 use Rattle.chan_def.specs.declared.definition.ChanDef.{ChanDef}
 use Rattle.rule_intersect.specs.Subchannels.{AreGoverning, SomeLacksRule}
 use Rattle.rule_intersect.specs.Tuples.{Choice, check_ms, least_by, some_rule}
-use Rattle.chan_flags.specs.ByRecords.{channel_at, BarsBy, BarsChannel, FitHas, IfFit, IsBoundBy, IsLengthBy, IsLimitBy, IsVerdictBy}
+use Rattle.chan_flags.specs.ByRecords.{channel_at, BarsBy, BarsChannel, FitHas, IfFit, IsBoundBy, IsCheckLengthBy, IsLimitBy, IsVerdictBy}
 use Rattle.chan_flags.specs.Lists.{AreChannels, IsRadioChannel}
 use Rattle.chan_flags.specs.Records.{fit_of, AreRecords}
-use Rattle.chan_flags.specs.Verdicts.{Bars, BarsFirst, BarsNone, IsAllowed, IsBound, IsGoverning, IsLength, IsLimit, IsMissing, IsRefusal, IsVerdict, SomeGoverning}
+use Rattle.chan_flags.specs.Verdicts.{Bars, BarsFirst, BarsNone, IsAllowed, IsBound, IsGoverning, IsCheckLength, IsLimit, IsMissing, IsRefusal, IsVerdict, SomeGoverning}
 use Rattle.chan_flags.specs.declared.asked.Asked.{Asked}
 use Rattle.chan_flags.specs.declared.asked.Obstacle.{Obstacle}
 use Rattle.chan_flags.specs.declared.asked.Obstacle.TheVariants.{Missing, Unruled, Narrow, OfdmBarred, IrBarred, OutdoorBarred}
@@ -150,7 +150,7 @@ no_check g without = ap (λ b. cond b (cond (g.rule.cac_s == 0) 60000 (g.rule.ca
 
 -- the length of the records' check is that of the rules
 length_moved : (ds : List Domain) (chans : List Chan) (q : Asked) (n : ℕ) → ((s : ℕ) → IsCovered q.chan s → IsRuled ds chans q.profile.bands s)
-    → IsLengthBy chans q n → IsLength ds q n
+    → IsCheckLengthBy chans q n → IsCheckLength ds q n
 length_moved ds chans q n each is = record {
   rules = λ s d g covered has governs dfs. under s (each s covered) (is.records s covered) d g has governs dfs;
   greatest = elim is.greatest [
@@ -245,7 +245,7 @@ refusal_moved ds chans q records channels r is = by_cases r is
         )
 
 allowed_moved : (ds : List Domain) (chans : List Chan) (q : Asked) (power n : ℕ) → AreRecords ds chans → AreChannels q.profile.bands (map (λ c. c.khz) chans)
-    → IsAllowed (BarsBy chans q) (IsLimitBy chans q) (IsLengthBy chans q) q power n → IsAllowed (Bars ds q) (IsLimit ds q) (IsLength ds q) q power n
+    → IsAllowed (BarsBy chans q) (IsLimitBy chans q) (IsCheckLengthBy chans q) q power n → IsAllowed (Bars ds q) (IsLimit ds q) (IsCheckLength ds q) q power n
 allowed_moved ds chans q power n records channels is = record {
   has_width = is.has_width;
   none_bars = (

@@ -3,9 +3,9 @@ use Rattle.std.proofs.Common.{◌≡◌, ℕ, ◌<◌, ◌≤◌, Option, Some, 
 use Rattle.std.proofs.lemmas.Bool.{cases_order}
 use Rattle.rule_tables.specs.declared.domain.Domain.{Domain}
 use Rattle.chan_def.specs.declared.definition.ChanDef.{ChanDef}
-use Rattle.chan_flags.specs.ByRecords.{channel_at, BarsBy, FitHas, IfFit, IsLengthBy, IsLimitBy, IsVerdictBy}
+use Rattle.chan_flags.specs.ByRecords.{channel_at, BarsBy, FitHas, IfFit, IsCheckLengthBy, IsLimitBy, IsVerdictBy}
 use Rattle.chan_flags.specs.Records.{fit_of, IsRecord}
-use Rattle.chan_flags.specs.Verdicts.{power_of, BarsFirst, BarsNone, HasWidth, IsAbove, IsLength, IsLimit, IsVerdict, IsVerdictOf, IsWithin, Bars}
+use Rattle.chan_flags.specs.Verdicts.{power_of, BarsFirst, BarsNone, HasWidth, IsAbove, IsCheckLength, IsLimit, IsVerdict, IsVerdictOf, IsWithin, Bars}
 use Rattle.chan_flags.specs.declared.asked.Asked.{Asked}
 use Rattle.chan_flags.specs.declared.asked.Obstacle.{Obstacle}
 use Rattle.chan_flags.specs.declared.asked.Obstacle.TheVariants.{Missing, Unruled, Narrow, OfdmBarred, IrBarred, OutdoorBarred}
@@ -39,14 +39,14 @@ IsLimit-unique ds q a b is other =
     let from = limit-le ds q b a other is in
     omega (arith, to, from)
 
-length-le : (ds : List Domain) (q : Asked) (a b : ℕ) → IsLength ds q a → IsLength ds q b → a ≤ b
+length-le : (ds : List Domain) (q : Asked) (a b : ℕ) → IsCheckLength ds q a → IsCheckLength ds q b → a ≤ b
 length-le ds q a b is other = elim is.greatest [
   | inl none ↦ omega (arith, none)
   | inr (s, covered, (d, has, g, governs, (dfs, same))) ↦ let least = other.rules s d g covered has governs dfs in omega (arith, least, same)
 ]
 
-IsLength-unique : (ds : List Domain) (q : Asked) (a b : ℕ) → IsLength ds q a → IsLength ds q b → a ≡ b
-IsLength-unique ds q a b is other =
+IsCheckLength-unique : (ds : List Domain) (q : Asked) (a b : ℕ) → IsCheckLength ds q a → IsCheckLength ds q b → a ≡ b
+IsCheckLength-unique ds q a b is other =
     let to = length-le ds q a b is other in
     let from = length-le ds q b a other is in
     omega (arith, to, from)
@@ -77,7 +77,7 @@ IsLimitBy-unique chans q a b is other =
     let from = limit_by-le chans q b a other is in
     omega (arith, to, from)
 
-length_by-le : (chans : List Chan) (q : Asked) (a b : ℕ) → IsLengthBy chans q a → IsLengthBy chans q b → a ≤ b
+length_by-le : (chans : List Chan) (q : Asked) (a b : ℕ) → IsCheckLengthBy chans q a → IsCheckLengthBy chans q b → a ≤ b
 length_by-le chans q a b is other = elim is.greatest [
   | inl none ↦ omega (arith, none)
   | inr (s, covered, here) ↦
@@ -87,8 +87,8 @@ length_by-le chans q a b is other = elim is.greatest [
       omega (arith, same, least)
 ]
 
-IsLengthBy-unique : (chans : List Chan) (q : Asked) (a b : ℕ) → IsLengthBy chans q a → IsLengthBy chans q b → a ≡ b
-IsLengthBy-unique chans q a b is other =
+IsCheckLengthBy-unique : (chans : List Chan) (q : Asked) (a b : ℕ) → IsCheckLengthBy chans q a → IsCheckLengthBy chans q b → a ≡ b
+IsCheckLengthBy-unique chans q a b is other =
     let to = length_by-le chans q a b is other in
     let from = length_by-le chans q b a other is in
     omega (arith, to, from)
@@ -231,7 +231,7 @@ one_verdict B L N q one_limit one_length v w is other = elim (cases_order (place
 ]
 
 pub IsVerdict-unique : (ds : List Domain) (q : Asked) (v w : Verdict) → IsVerdict ds q v → IsVerdict ds q w → v ≡ w
-IsVerdict-unique ds q v w is other = one_verdict (Bars ds q) (IsLimit ds q) (IsLength ds q) q (IsLimit-unique ds q) (IsLength-unique ds q) v w is other
+IsVerdict-unique ds q v w is other = one_verdict (Bars ds q) (IsLimit ds q) (IsCheckLength ds q) q (IsLimit-unique ds q) (IsCheckLength-unique ds q) v w is other
 
 pub IsVerdictBy-unique : (chans : List Chan) (q : Asked) (v w : Verdict) → IsVerdictBy chans q v → IsVerdictBy chans q w → v ≡ w
-IsVerdictBy-unique chans q v w is other = one_verdict (BarsBy chans q) (IsLimitBy chans q) (IsLengthBy chans q) q (IsLimitBy-unique chans q) (IsLengthBy-unique chans q) v w is other
+IsVerdictBy-unique chans q v w is other = one_verdict (BarsBy chans q) (IsLimitBy chans q) (IsCheckLengthBy chans q) q (IsLimitBy-unique chans q) (IsCheckLengthBy-unique chans q) v w is other

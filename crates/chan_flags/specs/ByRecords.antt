@@ -56,10 +56,10 @@ pub record IsLimitBy (chans : List Chan) (q : Asked) (limit : ℕ) : Type 0 wher
   pub least : (limit ≡ q.profile.power_mbm) ⊎ ((s : ℕ) × IsCovered q.chan s × FitHas (λ fit. limit ≡ fit.limit_mbm) (channel_at chans s))
 
 -- the length, in ms, is that of the longest check among the records with DFS of all subchannels, or 0 where none has it
-pub record IsLengthBy (chans : List Chan) (q : Asked) (length : ℕ) : Type 0 where
+pub record IsCheckLengthBy (chans : List Chan) (q : Asked) (length : ℕ) : Type 0 where
   pub records : (s : ℕ) → IsCovered q.chan s → IfFit (λ fit. IsTrue fit.flags.dfs → fit.check_ms ≤ length) (channel_at chans s)
   pub greatest : (length ≡ 0) ⊎ ((s : ℕ) × IsCovered q.chan s × FitHas (λ fit. IsTrue fit.flags.dfs × (length ≡ fit.check_ms)) (channel_at chans s))
 
 -- the verdict of the records
 abbrev pub IsVerdictBy : List Chan → Asked → Verdict → Type 0
-IsVerdictBy chans q verdict = IsVerdictOf (BarsBy chans q) (IsLimitBy chans q) (IsLengthBy chans q) q verdict
+IsVerdictBy chans q verdict = IsVerdictOf (BarsBy chans q) (IsLimitBy chans q) (IsCheckLengthBy chans q) q verdict

@@ -5,7 +5,7 @@ use Rattle.chan_def.specs.Covered.{width_khz, IsCovered}
 use Rattle.chan_def.specs.Kinds.{initiates}
 use Rattle.rule_intersect.specs.Tuples.{Choice}
 use Rattle.chan_flags.specs.Lists.{IsRadioChannel}
-use Rattle.chan_flags.specs.Verdicts.{power_of, HasWidth, IsGoverning, IsLength, IsLimit, IsWithin}
+use Rattle.chan_flags.specs.Verdicts.{power_of, HasWidth, IsGoverning, IsCheckLength, IsLimit, IsWithin}
 use Rattle.chan_flags.specs.declared.asked.Asked.{Asked}
 
 -- the governing rule allows what is asked, with this power in mBm
@@ -31,4 +31,4 @@ pub record IsGranting (ds : List Domain) (q : Asked) (mbm ms : ℕ) : Type 0 whe
   pub is_limit : IsLimit ds q limit
   pub within : IsWithin q.setting limit
   pub power_is : mbm ≡ power_of q.setting limit
-  pub length_is : IsLength ds q ms
+  pub length_is : IsCheckLength ds q ms

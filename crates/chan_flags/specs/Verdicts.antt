@@ -75,7 +75,7 @@ pub record IsLimit (ds : List Domain) (q : Asked) (limit : ℕ) : Type 0 where
   pub least : (limit ≡ q.profile.power_mbm) ⊎ ((s : ℕ) × IsCovered q.chan s × SomeGoverning (λ g. limit ≡ g.rule.eirp_mbm) ds s)
 
 -- the length, in ms, is that of the longest check for radar among the rules with DFS of all subchannels, or 0 where none has it
-pub record IsLength (ds : List Domain) (q : Asked) (length : ℕ) : Type 0 where
+pub record IsCheckLength (ds : List Domain) (q : Asked) (length : ℕ) : Type 0 where
   pub rules : (s : ℕ) (d : Domain) (g : Choice) → IsCovered q.chan s → Contains ds d → IsGoverning d s g → IsTrue g.rule.flags.dfs → check_ms g.rule ≤ length
   pub greatest : (length ≡ 0) ⊎ ((s : ℕ) × IsCovered q.chan s × SomeGoverning (λ g. IsTrue g.rule.flags.dfs × (length ≡ check_ms g.rule)) ds s)
 
@@ -149,4 +149,4 @@ IsVerdictOf bars limits lengths q (Fits power length) = IsAllowed bars limits le
 
 -- the verdict of the governing rules of all domains of the list
 abbrev pub IsVerdict : List Domain → Asked → Verdict → Type 0
-IsVerdict ds q verdict = IsVerdictOf (Bars ds q) (IsLimit ds q) (IsLength ds q) q verdict
+IsVerdict ds q verdict = IsVerdictOf (Bars ds q) (IsLimit ds q) (IsCheckLength ds q) q verdict

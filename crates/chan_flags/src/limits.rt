@@ -3,7 +3,7 @@
 ghost use Rattle.std.specs.Prelude.{◌≡◌, ◌≤◌, ◌⊎◌, ◌↔◌, IsTrue};
 ghost use Rattle.std.specs.Option.{option_copied};
 ghost use Rattle.chan_def.specs.Covered.{IsValidDef};
-ghost use Rattle.chan_flags.specs.ByRecords.{AreAscending, FitHas, IfFit, IsBoundBy, IsLengthBy, IsLimitBy};
+ghost use Rattle.chan_flags.specs.ByRecords.{AreAscending, FitHas, IfFit, IsBoundBy, IsCheckLengthBy, IsLimitBy};
 
 use crate::asked::Asked;
 use crate::barred::{MOST_SUBCHANNELS, channel_at};
@@ -56,7 +56,7 @@ pub fn limit_mbm_by(chans: &[Chan], asked: &Asked) -> u16
 pub fn check_ms_by(chans: &[Chan], asked: &Asked) -> u32
     requires valid { IsValidDef asked.now.chan }
     requires ascending { AreAscending chans.now }
-    ensures { IsLengthBy chans.now asked.now result }
+    ensures { IsCheckLengthBy chans.now asked.now result }
 {
     let mut length_ms = 0;
     for i in 0..MOST_SUBCHANNELS {
