@@ -12,7 +12,7 @@ use Rattle.rule_tables.specs.FileFormat.{AreEntries, CollectionAt, DropsRepeats,
 use Rattle.rule_tables.specs.declared.code.Region.{Region}
 use Rattle.rule_tables.specs.declared.code.Region.TheVariants.{Unset, Fcc, Etsi, Jp}
 use Rattle.rule_tables.specs.declared.domain.Domain.{Domain}
-use Rattle.db_reader.proofs.OneFault.{IsFirst-unique}
+use Rattle.freq_range.proofs.Firsts.{IsFirst-unique}
 use Rattle.db_reader.proofs.Records.{code_is}
 
 -- ---- rules

@@ -1,7 +1,8 @@
 -- Bytes have at most one fault, and none where they say a database.
 use Rattle.std.proofs.Common.{◌≡◌, ℕ, ◌+◌, ◌<◌, ◌≤◌, List, arith, sym, ◌∙◌, ap, subst, inl, inr}
-use Rattle.std.proofs.lemmas.Bool.{cases_lt, cases_order}
+use Rattle.std.proofs.lemmas.Bool.{cases_lt}
 use Rattle.freq_range.specs.First.{IsFirst}
+use Rattle.freq_range.proofs.Firsts.{IsFirst-unique}
 use Rattle.rule_tables.specs.Code.{IsCode}
 use Rattle.rule_tables.specs.FileFormat.{u8_at, AreEntries, EndsAt, ReadsAs, entry_place, target_at}
 use Rattle.rule_tables.specs.FileFaults.{HasEntryFault, HasHeader, HasRule, IsCodeFault, IsCollectionFault, IsDbFault, IsEntryFault, IsFaultyRule, IsFirstEntryFault, IsHeaderFault, code_at, rule_place}
@@ -11,14 +12,6 @@ use Rattle.rule_tables.specs.declared.file_fault.DbFault.{DbFault}
 use Rattle.rule_tables.specs.declared.file_fault.DbFault.TheVariants.{Short, BadMagic, BadVersion, BadAlpha2, CountryTwice, BadCollection, BadRegion, BadRule, BadWmm}
 use Rattle.db_reader.proofs.Entered.{no_fault_before}
 use Rattle.db_reader.proofs.Records.{good_code}
-
--- one place is the first
-pub IsFirst-unique : (P : ℕ → Type 0) (j k : ℕ) → IsFirst P j → IsFirst P k → j ≡ k
-IsFirst-unique P j k p q = elim (cases_order j k) [
-  | inl same ↦ same
-  | inr (inl lower) ↦ absurd (q.none_before j lower p.here)
-  | inr (inr higher) ↦ absurd (p.none_before k higher q.here)
-]
 
 -- ---- the header
 

@@ -2,3 +2,4 @@ pub mod Deciding
 pub mod Members
 pub mod Powers
 pub mod ToldRules
+pub mod Firsts

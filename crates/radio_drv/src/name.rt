@@ -6,7 +6,7 @@ ghost use Rattle.radio_drv.specs.Names.{IsName, IsVisible};
 use std::marker::Model;
 
 /// The name of an interface (`IFNAMSIZ`): 1 to 15 bytes of visible ASCII, 0x21 to 0x7e.
-#[derive(Clone, Copy, Debug)]
+#[derive(Clone, Copy, Debug, PartialEq, Eq)]
 pub struct Name {
     /// The bytes, and zeros behind them.
     bytes: [u8; 15],

@@ -1,0 +1,10 @@
+pub mod Covering
+pub mod Fitting
+pub mod Granted
+pub mod Judged
+pub mod Known
+pub mod Listed
+pub mod OneAnswer
+pub mod Told
+pub mod Searched
+pub mod Together

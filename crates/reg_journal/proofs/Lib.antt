@@ -1,0 +1,4 @@
+pub mod OneCause
+pub mod OneRefusal
+pub mod OneReply
+pub mod Granting

@@ -1,0 +1,123 @@
+-- Which domains apply to a radio, and its region.
+use Rattle.std.specs.Prelude.{ℕ, ◌==◌, Bool, true, false, List, [], ◌∷◌, ◌++◌, map, find, Option, Some, None, option_and_then, if◌then◌else◌}
+use Rattle.std.specs.List.{filter_map, list_all}
+use Rattle.std.specs.Option.{option_map, option_to_list}
+use Rattle.freq_range.specs.declared.flags.RuleFlags.{RuleFlags}
+use Rattle.freq_range.specs.declared.rule.Rule.{Rule}
+use Rattle.rule_tables.specs.FileFormat.{region_number}
+use Rattle.rule_tables.specs.declared.code.Alpha2.{Alpha2}
+use Rattle.rule_tables.specs.declared.code.Region.{Region}
+use Rattle.rule_tables.specs.declared.code.Region.TheVariants.{Unset}
+use Rattle.rule_tables.specs.declared.domain.Domain.{Domain}
+use Rattle.reg_hints.specs.Last.{world}
+use Rattle.reg_hints.specs.Table.{Hinted, Treated, Own, State, after_all, is_same_code}
+use Rattle.reg_hints.specs.declared.hint.Hint.TheVariants.{User, Driver, Element}
+use Rattle.reg_journal.specs.Facts.{Fact, Journal, moment_is, radio_added, radio_removed, rules_are, hinted, indoor_is, radar_met, made, ended, typed, set_to, started, stopped, powered, check_begun, check_dropped}
+use Rattle.reg_journal.specs.Present.{abilities_of, custom_rules_of}
+
+-- ---- hints
+
+-- the accepted hints, the newest first
+abbrev pub hinted_of : Journal → List Hinted
+hinted_of [] = []
+hinted_of (hinted hint ∷ J) = hint ∷ hinted_of J
+hinted_of (f ∷ J) = hinted_of J
+
+-- what they have led to: the last hint, and the codes of the global list
+abbrev pub hints_of : Journal → State
+hints_of J = after_all (hinted_of J)
+
+-- the code of the last hint of the radio's driver, if there was one
+abbrev pub driver_code_in : List Hinted → ℕ → Option Alpha2
+driver_code_in [] r = None
+driver_code_in (Own q a ∷ hints) r = if r == q then Some a else driver_code_in hints r
+driver_code_in (Treated (Driver q a) ∷ hints) r = if r == q then Some a else driver_code_in hints r
+driver_code_in (Treated (User a) ∷ hints) r = driver_code_in hints r
+driver_code_in (Treated (Element q a deaf) ∷ hints) r = driver_code_in hints r
+
+abbrev pub driver_code_of : Journal → ℕ → Option Alpha2
+driver_code_of J r = driver_code_in (hinted_of J) r
+
+-- ---- domains
+
+-- a rule of the world's domain: 20 dBm, with these flags beside none
+abbrev pub world_rule : ℕ → ℕ → ℕ → RuleFlags → Rule
+world_rule start end width flags = record { start_khz = start; end_khz = end; max_bw_khz = width; flags = flags; eirp_mbm = 2000; cac_s = 0; wmm = None }
+
+-- no flag but these
+abbrev pub passive : (dfs no_ir auto_bw : Bool) → RuleFlags
+passive dfs no_ir auto_bw = record { no_ofdm = false; no_outdoor = false; dfs = dfs; no_ir = no_ir; auto_bw = auto_bw }
+
+-- What holds for the world where the database doesn't say: 2402 to 2472 MHz with 40 MHz, and 5170 to 5250 and 5250 to
+-- 5330 MHz with 80 MHz, where nobody may send first, and above 5250 MHz with radar detection.
+abbrev pub world_domain : Domain
+world_domain = record {
+  alpha2 = world;
+  region = Unset;
+  rules = world_rule 2402000 2472000 40000 (passive false false false)
+      ∷ world_rule 5170000 5250000 80000 (passive false true true)
+      ∷ world_rule 5250000 5330000 80000 (passive true true true)
+      ∷ [];
+}
+
+abbrev pub or_world : Alpha2 → Option Domain → Option Domain
+or_world a (Some d) = Some d
+or_world a None = if is_same_code a world then Some world_domain else None
+
+-- the domain of the code: the database's, or for the world's code its own where the database has none
+abbrev pub find_domain : List Domain → Alpha2 → Option Domain
+find_domain db a = or_world a (find (λ d. is_same_code d.alpha2 a) db)
+
+-- the domains of the global list
+abbrev pub global_domains : List Domain → Journal → List Domain
+global_domains db J = filter_map (find_domain db) (hints_of J).global
+
+-- the code `99`
+abbrev pub own_code : Alpha2
+own_code = record { a = 57; b = 57 }
+
+-- a radio's own rules as a domain; where there are none, it permits nothing
+abbrev pub own_domain : List Rule → Domain
+own_domain rules = record { alpha2 = own_code; region = Unset; rules = rules }
+
+abbrev pub is_self_managed : Journal → ℕ → Bool
+is_self_managed J r = (abilities_of J r).self_managed
+
+-- the domains that apply to the radio with all others: none where it manages itself
+abbrev pub shared_domains : List Domain → Journal → ℕ → List Domain
+shared_domains db J r = if is_self_managed J r then [] else global_domains db J
+
+-- that of its own rules, where it has some
+abbrev pub custom_domains : Journal → ℕ → List Domain
+custom_domains J r = option_to_list (option_map own_domain (custom_rules_of J r))
+
+-- that of its driver's last hint, where there was one
+abbrev pub driver_domains : List Domain → Journal → ℕ → List Domain
+driver_domains db J r = option_to_list (option_and_then (find_domain db) (driver_code_of J r))
+
+-- the list, or one domain without rules where it is empty
+abbrev pub or_nothing : List Domain → List Domain
+or_nothing [] = own_domain [] ∷ []
+or_nothing (d ∷ ds) = d ∷ ds
+
+-- The domains that apply to the radio. There is always one.
+abbrev pub applies : List Domain → Journal → ℕ → List Domain
+applies db J r = or_nothing (shared_domains db J r ++ custom_domains J r ++ driver_domains db J r)
+
+-- ---- regions
+
+abbrev pub is_same_region : Region → Region → Bool
+is_same_region one other = region_number one == region_number other
+
+-- the region that all have, or unset where they differ or there is none
+abbrev pub common_region : List Region → Region
+common_region [] = Unset
+common_region (region ∷ regions) = if list_all (is_same_region region) regions then region else Unset
+
+-- the region of the global list
+abbrev pub global_region : List Domain → Journal → Region
+global_region db J = common_region (map (λ d. d.region) (global_domains db J))
+
+-- The region of the radio. Its own rules have none.
+abbrev pub region_of : List Domain → Journal → ℕ → Region
+region_of db J r = common_region (map (λ d. d.region) (shared_domains db J r ++ driver_domains db J r))

@@ -1,0 +1,56 @@
+-- Where each kind of fact may come: what holds of every journal to which requests led.
+use Rattle.std.specs.Prelude.{◌≡◌, ◌≢◌, ℕ, ◌+◌, ◌^◌, ◌<◌, ◌≤◌, ◌⊎◌, Bool, true, false, List, [], ◌∷◌, length, All, Option, Some, None, IsSome, IsSomeAnd, IsTrue}
+use Rattle.freq_range.specs.Valid.{IsValidRule}
+use Rattle.rule_tables.specs.declared.code.Alpha2.{Alpha2}
+use Rattle.rule_tables.specs.declared.domain.Domain.{Domain}
+use Rattle.chan_def.specs.Covered.{IsValidDef}
+use Rattle.chan_def.specs.Kinds.{initiates}
+use Rattle.chan_def.specs.declared.kind.Kind.TheVariants.{Monitor}
+use Rattle.chan_flags.specs.Profiles.{IsProfile}
+use Rattle.reg_hints.specs.Table.{Hinted, Treated, Own, hinted_code, IsOneTooMany}
+use Rattle.reg_journal.specs.Facts.{Fact, Journal, moment_is, radio_added, radio_removed, rules_are, hinted, indoor_is, radar_met, made, ended, typed, set_to, started, stopped, powered, check_begun, check_dropped}
+use Rattle.reg_journal.specs.Present.{Iface, now_of, is_used, profile_of, ifaces_on, made_of, named, indexed, operation_of, check_of}
+use Rattle.reg_journal.specs.Applicable.{hints_of, find_domain}
+
+-- the interface is there, and has neither an operation nor a running check
+abbrev pub IsResting : Journal → ℕ → Type 0
+IsResting J i = IsSome (indexed J i) × (operation_of J i ≡ None) × (check_of J i ≡ None)
+
+-- the interface is there and has no running check; an operation is replaced on a monitor alone
+abbrev pub MayStart : Journal → ℕ → Type 0
+MayStart J i = (check_of J i ≡ None) × IsSomeAnd (indexed J i) (λ x. (operation_of J i ≡ None) ⊎ (x.kind ≡ Monitor))
+
+-- the code that an accepted hint names
+abbrev pub code_of_hint : Hinted → Alpha2
+code_of_hint (Treated hint) = hinted_code hint
+code_of_hint (Own r a) = a
+
+-- the hint may come: its domain is known, and it adds no fifth one
+abbrev pub IsHintDue : List Domain → Journal → Hinted → Type 0
+IsHintDue db J (Treated hint) = IsSome (find_domain db (hinted_code hint)) × (IsOneTooMany (hints_of J) hint → ⊥)
+IsHintDue db J (Own r a) = IsSome (find_domain db a) × (r < 8)
+
+-- the fact may come after the journal
+abbrev pub IsDue : List Domain → Journal → Fact → Type 0
+IsDue db J (moment_is moment) = (now_of J ≤ moment) × (moment ≤ 10 ^ 15)
+IsDue db J (radio_added r profile) = (r < 8) × (is_used J r ≡ false) × IsProfile profile
+IsDue db J (radio_removed r) = IsSome (profile_of J r) × (ifaces_on J r ≡ [])
+IsDue db J (rules_are r rules) = IsSome (profile_of J r) × (0 < length rules) × (length rules ≤ 32) × All IsValidRule rules
+IsDue db J (hinted hint) = IsHintDue db J hint
+IsDue db J (indoor_is on) = Unit {0}
+IsDue db J (radar_met r chan) = IsSome (profile_of J r) × IsValidDef chan
+IsDue db J (made i name r kind) =
+    (i ≡ made_of J + 1) × (i < 2 ^ 32) × (named J name ≡ None) × IsSome (profile_of J r) × (length (ifaces_on J r) < 8)
+IsDue db J (ended i) = IsResting J i
+IsDue db J (typed i kind) = IsResting J i
+IsDue db J (set_to i setting) = IsSome (indexed J i)
+IsDue db J (started i chan power) = MayStart J i × IsValidDef chan × (power < 2 ^ 16)
+IsDue db J (stopped i) = IsSome (operation_of J i)
+IsDue db J (powered i power) = IsSome (operation_of J i) × (power < 2 ^ 16)
+IsDue db J (check_begun i chan length) = IsResting J i × IsSomeAnd (indexed J i) (λ x. IsTrue (initiates x.kind)) × IsValidDef chan × (length < 2 ^ 32)
+IsDue db J (check_dropped i) = IsSome (check_of J i)
+
+-- each fact came where it might
+abbrev pub AreDue : List Domain → Journal → Type 0
+AreDue db [] = Unit {0}
+AreDue db (f ∷ J) = IsDue db J f × AreDue db J

@@ -1,0 +1,15 @@
+pub mod Names
+pub mod Facts
+pub mod Present
+pub mod Applicable
+pub mod Radar
+pub mod Permits
+pub mod Causes
+pub mod Refusals
+pub mod Sweep
+pub mod Effects
+pub mod Dumps
+pub mod Replies
+pub mod OnAir
+pub mod Due
+pub mod Granted

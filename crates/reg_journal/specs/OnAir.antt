@@ -1,0 +1,24 @@
+-- What a radio's driver has on air.
+use Rattle.std.specs.Prelude.{ℕ, ◌==◌, Bool, false, List, [], ◌∷◌, if◌then◌else◌}
+use Rattle.std.specs.Option.{option_map_or}
+use Rattle.chan_def.specs.declared.definition.ChanDef.{ChanDef}
+use Rattle.radio_drv.specs.Air.{started as put_on_air, stopped as taken_off, powered as given_power}
+use Rattle.radio_drv.specs.declared.on_air.OnAir.{OnAir}
+use Rattle.reg_journal.specs.Facts.{Fact, Journal, moment_is, radio_added, radio_removed, rules_are, hinted, indoor_is, radar_met, made, ended, typed, set_to, started, stopped, powered, check_begun, check_dropped}
+use Rattle.reg_journal.specs.Present.{radio_of}
+
+abbrev pub entry : ℕ → ChanDef → ℕ → OnAir
+entry i chan power = record { iface = i; chan = chan; power_mbm = power }
+
+-- the interface of this index was made on the radio
+abbrev pub is_on : Journal → ℕ → ℕ → Bool
+is_on J i r = option_map_or (λ q. q == r) (radio_of J i) false
+
+-- The operations of the radio's interfaces with their powers, in order of their starts. One that replaces another keeps its
+-- place.
+abbrev pub on_air_of : Journal → ℕ → List OnAir
+on_air_of [] r = []
+on_air_of (started i chan power ∷ J) r = if is_on J i r then put_on_air (entry i chan power) (on_air_of J r) else on_air_of J r
+on_air_of (stopped i ∷ J) r = if is_on J i r then taken_off i (on_air_of J r) else on_air_of J r
+on_air_of (powered i power ∷ J) r = if is_on J i r then given_power i power (on_air_of J r) else on_air_of J r
+on_air_of (f ∷ J) r = on_air_of J r

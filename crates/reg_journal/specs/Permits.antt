@@ -1,0 +1,148 @@
+-- What speaks against a channel for an interface: its radio, the rules of the domains that apply, and radar.
+-- Below, x is an interface and c the channel.
+use Rattle.std.specs.Prelude.{◌≡◌, ℕ, ◌+◌, ◌*◌, ◌/◌, ◌<◌, ◌==◌, Bool, true, false, ◌&&◌, List, [], ◌∷◌, ◌++◌, length, filter, Option, Some, None, IsTrue, if◌then◌else◌}
+use Rattle.std.specs.List.{filter_map, list_any}
+use Rattle.std.specs.Option.{option_map}
+use Rattle.rule_tables.specs.declared.domain.Domain.{Domain}
+use Rattle.chan_def.specs.Covered.{width_khz, IsCovered, IsValidDef}
+use Rattle.chan_def.specs.Kinds.{initiates}
+use Rattle.chan_def.specs.declared.definition.ChanDef.{ChanDef}
+use Rattle.chan_def.specs.declared.width.Width.{Width}
+use Rattle.chan_def.specs.declared.width.Width.TheVariants.{Noht, W20, W40, W80, W160}
+use Rattle.chan_flags.specs.Verdicts.{asked, Bars, IsBound, IsLimit, IsCheckLength, IsAbove, power_of}
+use Rattle.chan_flags.specs.declared.asked.Asked.{Asked}
+use Rattle.chan_flags.specs.declared.asked.Obstacle.TheVariants.{Missing, Unruled, Narrow, OfdmBarred, IrBarred, OutdoorBarred}
+use Rattle.reg_journal.specs.Facts.{Journal}
+use Rattle.reg_journal.specs.Present.{Iface, Operation, Check, is_apart, is_indoor, abilities_of, ifaces_on, operation_of, check_of}
+use Rattle.reg_journal.specs.Applicable.{applies}
+use Rattle.reg_journal.specs.Radar.{IsQuiet, Stands, NoneStands}
+use Rattle.reg_journal.specs.Causes.{◌before◌, Where, AtLowest}
+use Rattle.reg_journal.specs.declared.refusal.Refusal.{Refusal}
+use Rattle.reg_journal.specs.declared.refusal.Refusal.TheVariants.{RadioLacks, RadioLacksWidth, RadioLacksContext, NoRule, Width as TooNarrow, NoOfdm, NoIr, NoOutdoor, Power, RadioLacksRadarWidth, Radar, Unchecked}
+
+-- what the interface asks of its radio with the channel
+abbrev pub asked_by : Journal → Iface → ChanDef → Asked
+asked_by J x c = asked (abilities_of J x.radio) c x.kind (is_indoor J) x.setting
+
+-- the channel's width in MHz
+abbrev pub width_mhz : ChanDef → ℕ
+width_mhz c = width_khz c.width / 1000
+
+-- ---- the radio
+
+abbrev pub LacksChannel : List Domain → Journal → Iface → ChanDef → Refusal → Type 0
+LacksChannel db J x c = AtLowest (Bars (applies db J x.radio) (asked_by J x c) Missing) c RadioLacks
+
+abbrev pub LacksWidth : Journal → Iface → ChanDef → Refusal → Type 0
+LacksWidth J x c = Where ((abilities_of J x.radio).width_mhz < width_mhz c) (RadioLacksWidth (width_mhz c))
+
+abbrev pub width_place : Width → ℕ
+width_place Noht = 0
+width_place W20 = 1
+width_place W40 = 2
+width_place W80 = 3
+width_place W160 = 4
+
+abbrev pub is_same_channel : ChanDef → ChanDef → Bool
+is_same_channel one other = one.control_khz == other.control_khz && width_place one.width == width_place other.width && one.centre_khz == other.centre_khz
+
+-- each channel of the list once
+abbrev pub distinct : List ChanDef → List ChanDef
+distinct [] = []
+distinct (c ∷ cs) = if list_any (is_same_channel c) cs then distinct cs else c ∷ distinct cs
+
+-- the channel that the interface is on: that of its operation, or else of its running check
+abbrev pub channel_in : Option Operation → Option Check → Option ChanDef
+channel_in (Some o) k = Some o.chan
+channel_in None k = option_map (λ (k : Check). k.chan) k
+
+abbrev pub channel_of : Journal → Iface → Option ChanDef
+channel_of J x = channel_in (operation_of J x.index) (check_of J x.index)
+
+-- the channels that the other interfaces of its radio are on
+abbrev pub channels_beside : Journal → Iface → List ChanDef
+channels_beside J x = filter_map (channel_of J) (filter (is_apart x.index) (ifaces_on J x.radio))
+
+-- With this channel, the radio would be on more channels at once than it can.
+abbrev pub LacksContext : Journal → Iface → ChanDef → Refusal → Type 0
+LacksContext J x c =
+    Where ((abilities_of J x.radio).contexts < length (distinct (c ∷ channels_beside J x))) (RadioLacksContext (abilities_of J x.radio).contexts)
+
+-- ---- the rules
+
+-- No rule, too little width, no OFDM, nobody may send first, nobody may operate outdoors: each on the lowest subchannel for
+-- which some domain that applies says so.
+abbrev pub RulesForbid : List Domain → Journal → Iface → ChanDef → Refusal → Type 0
+RulesForbid db J x c =
+    let bars = Bars (applies db J x.radio) (asked_by J x c) in
+    AtLowest (bars Unruled) c NoRule
+    before AtLowest (bars Narrow) c TooNarrow
+    before AtLowest (bars OfdmBarred) c NoOfdm
+    before AtLowest (bars IrBarred) c NoIr
+    before AtLowest (bars OutdoorBarred) c NoOutdoor
+
+-- the limit of the interface on the channel, in mBm: the least of the radio's power and those of all rules
+abbrev pub IsLimitOf : List Domain → Journal → Iface → ChanDef → ℕ → Type 0
+IsLimitOf db J x c = IsLimit (applies db J x.radio) (asked_by J x c)
+
+-- the power, in mBm, with which the interface operates on the channel
+abbrev pub IsPowerOf : List Domain → Journal → Iface → ChanDef → ℕ → Type 0
+IsPowerOf db J x c power = (limit : ℕ) × IsLimitOf db J x c limit × (power ≡ power_of x.setting limit)
+
+-- the power that is set is fixed and above the limit
+abbrev pub PassesLimit : List Domain → Journal → Iface → ChanDef → Refusal → Type 0
+PassesLimit db J x c = λ e. (limit : ℕ) × IsLimitOf db J x c limit × IsAbove x.setting limit × (e ≡ Power limit)
+
+-- ---- radar
+
+-- the subchannel has to be checked for radar: some rule has DFS
+abbrev pub IsBoundOn : List Domain → Journal → ℕ → ℕ → Type 0
+IsBoundOn db J r s = IsBound (applies db J r) s
+
+-- some subchannel has to be checked, and the channel is wider than what the radio can check
+abbrev pub LacksRadarWidth : List Domain → Journal → Iface → ChanDef → Refusal → Type 0
+LacksRadarWidth db J x c =
+    Where (IsTrue (initiates x.kind) × ((s : ℕ) × IsCovered c s × IsBoundOn db J x.radio s) × ((abilities_of J x.radio).radar_mhz < width_mhz c))
+    (RadioLacksRadarWidth (width_mhz c))
+
+-- there was radar on a subchannel that has to be checked, and its nonoccupancy isn't over
+abbrev pub MetRadar : List Domain → Journal → Iface → ChanDef → Refusal → Type 0
+MetRadar db J x c = AtLowest (λ s. IsTrue (initiates x.kind) × IsBoundOn db J x.radio s × (IsQuiet J x.radio s → ⊥)) c Radar
+
+-- no check stands for a subchannel that has to be checked
+abbrev pub IsUnchecked : List Domain → Journal → Iface → ChanDef → Refusal → Type 0
+IsUnchecked db J x c = AtLowest (λ s. IsTrue (initiates x.kind) × IsBoundOn db J x.radio s × NoneStands db J x.radio s) c Unchecked
+
+-- a check stands for each subchannel that has to be checked, or none has to be
+abbrev pub IsChecked : List Domain → Journal → Iface → ChanDef → Type 0
+IsChecked db J x c = (s : ℕ) → IsCovered c s → IsBoundOn db J x.radio s → (end : ℕ) × Stands db J x.radio s end
+
+-- how long the channel is checked, in ms
+abbrev pub IsLengthOf : List Domain → Journal → Iface → ChanDef → ℕ → Type 0
+IsLengthOf db J x c = IsCheckLength (applies db J x.radio) (asked_by J x c)
+
+-- ---- all of it, in order
+
+-- what ends an operation on the channel
+abbrev pub EndsOperation : List Domain → Journal → Iface → ChanDef → Refusal → Type 0
+EndsOperation db J x c =
+    LacksChannel db J x c before LacksWidth J x c before RulesForbid db J x c before PassesLimit db J x c
+    before LacksRadarWidth db J x c before MetRadar db J x c before IsUnchecked db J x c
+
+-- what ends a check of the channel
+abbrev pub EndsCheck : List Domain → Journal → Iface → ChanDef → Refusal → Type 0
+EndsCheck db J x c =
+    LacksChannel db J x c before LacksWidth J x c before RulesForbid db J x c
+    before LacksRadarWidth db J x c before MetRadar db J x c
+
+-- what keeps an operation from the channel
+abbrev pub BarsOperation : List Domain → Journal → Iface → ChanDef → Refusal → Type 0
+BarsOperation db J x c =
+    LacksChannel db J x c before LacksWidth J x c before LacksContext J x c before RulesForbid db J x c before PassesLimit db J x c
+    before LacksRadarWidth db J x c before MetRadar db J x c before IsUnchecked db J x c
+
+-- what keeps a check from the channel
+abbrev pub BarsCheck : List Domain → Journal → Iface → ChanDef → Refusal → Type 0
+BarsCheck db J x c =
+    LacksChannel db J x c before LacksWidth J x c before LacksContext J x c before RulesForbid db J x c
+    before LacksRadarWidth db J x c before MetRadar db J x c

@@ -1,0 +1,89 @@
+-- Radar and checks, over the whole journal: quiet subchannels, and checks that stand for one.
+use Rattle.std.specs.Prelude.{◌≡◌, ℕ, ◌+◌, ◌<◌, ◌≤◌, ◌⊎◌, List, [], ◌∷◌, ◌++◌, Option, Some, None, MatchOption}
+use Rattle.rule_tables.specs.declared.domain.Domain.{Domain}
+use Rattle.chan_def.specs.Covered.{IsCovered}
+use Rattle.chan_def.specs.declared.definition.ChanDef.{ChanDef}
+use Rattle.dfs_states.specs.Greatest.{IsGreatest}
+use Rattle.dfs_states.specs.declared.dfs.Dfs.{Dfs}
+use Rattle.dfs_states.specs.declared.dfs.Dfs.TheVariants.{Usable, Unavailable, Available}
+use Rattle.reg_journal.specs.Facts.{Fact, Journal, radar_met, check_begun, check_dropped}
+use Rattle.reg_journal.specs.Present.{now_of, radio_of}
+use Rattle.reg_journal.specs.Applicable.{region_of}
+
+-- how long a subchannel stays unavailable after radar, in ms: 30 minutes
+abbrev pub nonoccupancy : ℕ
+nonoccupancy = 1800000
+
+-- ---- radar
+
+-- the radio met radar on the subchannel, and its nonoccupancy ends at this moment
+pub record IsBarred (J : Journal) (r s until : ℕ) : Type 0 where
+  pub newer : Journal
+  pub chan : ChanDef
+  pub older : Journal
+  pub met : J ≡ newer ++ radar_met r chan ∷ older
+  pub covered : IsCovered chan s
+  pub ends : until ≡ now_of older + nonoccupancy
+
+-- each nonoccupancy of the subchannel is over
+abbrev pub IsQuiet : Journal → ℕ → ℕ → Type 0
+IsQuiet J r s = (until : ℕ) → IsBarred J r s until → until ≤ now_of J
+
+-- ---- checks
+
+-- the radio met radar on the subchannel
+pub record HasRadar (facts : Journal) (r s : ℕ) : Type 0 where
+  pub newer : Journal
+  pub chan : ChanDef
+  pub older : Journal
+  pub met : facts ≡ newer ++ radar_met r chan ∷ older
+  pub covered : IsCovered chan s
+
+-- some check began on the interface
+pub record HasCheck (facts : Journal) (i : ℕ) : Type 0 where
+  pub newer : Journal
+  pub chan : ChanDef
+  pub length : ℕ
+  pub older : Journal
+  pub begun : facts ≡ newer ++ check_begun i chan length ∷ older
+
+-- No drop on the interface comes before its next check begins.
+abbrev pub IsKept : Journal → ℕ → Type 0
+IsKept facts i = (newer between : Journal) → facts ≡ newer ++ check_dropped i ∷ between → HasCheck between i
+
+-- The radio's region is after each of these facts what it was just before it. The facts came after `older`.
+abbrev pub KeepsRegion : List Domain → Journal → Journal → ℕ → Type 0
+KeepsRegion db facts older r =
+    (newer : Journal) (f : Fact) (between : Journal) → facts ≡ newer ++ f ∷ between → region_of db (f ∷ between ++ older) r ≡ region_of db (between ++ older) r
+
+-- A check on an interface of the radio, which ends at this moment, counts for the subchannel: it covers it, wasn't dropped,
+-- and since it began the radio met no radar there and its region didn't change.
+pub record Counts (db : List Domain) (J : Journal) (r s end : ℕ) : Type 0 where
+  pub newer : Journal
+  pub iface : ℕ
+  pub chan : ChanDef
+  pub length : ℕ
+  pub older : Journal
+  pub begun : J ≡ newer ++ check_begun iface chan length ∷ older
+  pub on_radio : radio_of J iface ≡ Some r
+  pub covered : IsCovered chan s
+  pub ends : end ≡ now_of older + length
+  pub kept : IsKept newer iface
+  pub no_radar : HasRadar newer r s → ⊥
+  pub same_region : KeepsRegion db newer (check_begun iface chan length ∷ older) r
+
+-- a check stands for the subchannel: it counts, and it ended at this moment, which isn't to come
+pub record Stands (db : List Domain) (J : Journal) (r s end : ℕ) : Type 0 where
+  pub counts : Counts db J r s end
+  pub over : end ≤ now_of J
+
+-- no check stands for the subchannel
+abbrev pub NoneStands : List Domain → Journal → ℕ → ℕ → Type 0
+NoneStands db J r s = (end : ℕ) → Stands db J r s end → ⊥
+
+-- ---- the state of a subchannel
+
+abbrev pub IsState : List Domain → Journal → ℕ → ℕ → Dfs → Type 0
+IsState db J r s (Unavailable until) = IsGreatest (IsBarred J r s) until × (now_of J < until)
+IsState db J r s (Available since) = IsQuiet J r s × IsGreatest (Stands db J r s) since
+IsState db J r s Usable = IsQuiet J r s × NoneStands db J r s

@@ -1,0 +1,27 @@
+//! Laws over all journals.
+
+ghost use Rattle.std.specs.Prelude.{◌≡◌, ℕ, List, Bool};
+ghost use Rattle.rule_tables.specs.declared.domain.Domain.{Domain};
+ghost use Rattle.chan_def.specs.declared.definition.ChanDef.{ChanDef};
+ghost use Rattle.reg_journal.specs.Causes.{IsFree};
+ghost use Rattle.reg_journal.specs.Facts.{Fact, Journal};
+ghost use Rattle.reg_journal.specs.Granted.{IsGranted};
+ghost use Rattle.reg_journal.specs.Permits.{BarsOperation, IsPowerOf};
+ghost use Rattle.reg_journal.specs.Present.{Iface};
+ghost use Rattle.reg_journal.specs.Replies.{Replies};
+ghost use Rattle.reg_journal.specs.declared.reply.Reply.{Reply};
+ghost use Rattle.reg_journal.specs.declared.request.Request.{Request};
+
+/// Over a journal a request has at most one reply, and appends the same facts with it.
+pub fn one_reply()
+    ensures { (db : List Domain) (journal : Journal) (q : Request) (failed : Bool) (one other : Reply) (facts others : List Fact)
+        → Replies db journal q failed one facts → Replies db journal q failed other others → (one ≡ other) × (facts ≡ others) }
+{}
+
+/// Nothing bars a start that is granted, and its power is the one that its setting gives.
+pub fn granted_is_not_barred()
+    ensures free { (db : List Domain) (journal : Journal) (x : Iface) (c : ChanDef) (power : ℕ)
+        → IsGranted db journal x c power → IsFree (BarsOperation db journal x c) }
+    ensures power { (db : List Domain) (journal : Journal) (x : Iface) (c : ChanDef) (power : ℕ)
+        → IsGranted db journal x c power → IsPowerOf db journal x c power }
+{}

@@ -1,0 +1,19 @@
+//! What a core of radios is asked, what it answers, and what its answers are to be: the journal of
+//! all that was accepted, and the reply to each request over that journal.
+#![tactic(auto)]
+
+mod effects;
+mod laws;
+mod lists;
+mod refusal;
+mod reply;
+mod report;
+mod request;
+
+pub use effects::{Effect, Effects};
+pub use laws::{granted_is_not_barred, one_reply};
+pub use lists::{ChanList, IfaceList, RowList, SectionList};
+pub use refusal::Refusal;
+pub use reply::{Answer, HintAnswer, Reply};
+pub use report::{IfaceReport, IfaceState, RadioReport, Section};
+pub use request::Request;
