@@ -1,21 +1,20 @@
 -- Nothing bars an operation that is granted.
-use Rattle.std.proofs.Common.{◌≡◌, ◌+◌, ◌*◌, ◌/◌, ◌<◌, ◌≤◌, ℕ, List, ◌∷◌, length, refl, sym, ap, subst, ◌∙◌, inl, inr, arith, IsTrue}
+use Rattle.std.proofs.Common.{◌≡◌, ◌*◌, ◌/◌, ℕ, List, refl, subst, inl, inr, arith}
 use Rattle.rule_tables.specs.declared.domain.Domain.{Domain}
 use Rattle.chan_def.specs.Covered.{width_khz}
 use Rattle.chan_def.specs.declared.definition.ChanDef.{ChanDef}
 use Rattle.chan_def.specs.declared.width.Width.{Width}
 use Rattle.chan_def.specs.declared.width.Width.TheVariants.{Noht, W20, W40, W80, W160}
-use Rattle.chan_flags.specs.Verdicts.{Bars, BarsNone, BarsFirst, HasWidth, IsAbove, IsWithin, IsLimit}
-use Rattle.chan_flags.specs.declared.asked.Obstacle.TheVariants.{Missing, Unruled, Narrow, OfdmBarred, IrBarred, OutdoorBarred}
+use Rattle.chan_flags.specs.Verdicts.{BarsNone, IsAbove, IsWithin}
 use Rattle.chan_flags.specs.declared.verdict.PowerSetting.{PowerSetting}
 use Rattle.chan_flags.specs.declared.verdict.PowerSetting.TheVariants.{Auto, Limit, Fixed}
 use Rattle.chan_flags.proofs.Granted.{verdict_from_granting}
 use Rattle.chan_flags.proofs.OneAnswer.{IsLimit-unique}
 use Rattle.reg_journal.specs.Facts.{Journal}
-use Rattle.reg_journal.specs.Present.{Iface, abilities_of}
+use Rattle.reg_journal.specs.Present.{Iface}
 use Rattle.reg_journal.specs.Applicable.{applies}
 use Rattle.reg_journal.specs.Causes.{IsFree, ◌before◌, Where, AtLowest}
-use Rattle.reg_journal.specs.Permits.{asked_by, width_mhz, IsPowerOf, BarsOperation}
+use Rattle.reg_journal.specs.Permits.{asked_by, IsPowerOf, BarsOperation}
 use Rattle.reg_journal.specs.Granted.{IsGranted}
 use Rattle.reg_journal.specs.declared.refusal.Refusal.{Refusal}
 
@@ -30,14 +29,14 @@ pub free-at_lowest : (bars : ℕ → Type 0) (c : ChanDef) (refusal : ℕ → Re
 free-at_lowest bars c refusal none e (s, first, here) = none s first.covered first.here
 
 -- widths are whole MHz
-whole_mhz : (w : Width) → width_khz w ≡ width_khz w / 1000 * 1000
+pub whole_mhz : (w : Width) → width_khz w ≡ width_khz w / 1000 * 1000
 whole_mhz Noht = refl
 whole_mhz W20 = refl
 whole_mhz W40 = refl
 whole_mhz W80 = refl
 whole_mhz W160 = refl
 
-not_above : (setting : PowerSetting) (limit : ℕ) → IsWithin setting limit → IsAbove setting limit → ⊥
+pub not_above : (setting : PowerSetting) (limit : ℕ) → IsWithin setting limit → IsAbove setting limit → ⊥
 not_above Auto limit within above = above
 not_above (Limit power) limit within above = above
 not_above (Fixed power) limit within above = omega (arith, within, above)

@@ -2,3 +2,5 @@ pub mod OneCause
 pub mod OneRefusal
 pub mod OneReply
 pub mod Granting
+pub mod Verdicts
+pub mod SameNames

@@ -1,8 +1,8 @@
 -- Causes name one refusal at most.
-use Rattle.std.proofs.Common.{◌≡◌, ◌<◌, ℕ, refl, sym, ap, ◌∙◌, inl, inr, arith, Option, Some, None, IsSomeAnd}
+use Rattle.std.proofs.Common.{◌≡◌, ℕ, sym, ap, ◌∙◌, inl, inr}
 use Rattle.chan_def.specs.declared.definition.ChanDef.{ChanDef}
 use Rattle.chan_flags.proofs.OneAnswer.{BarsFirst-unique}
-use Rattle.reg_journal.specs.Causes.{IsFree, ◌before◌, Where, AtLowest}
+use Rattle.reg_journal.specs.Causes.{◌before◌, Where, AtLowest}
 use Rattle.reg_journal.specs.declared.refusal.Refusal.{Refusal}
 
 abbrev pub NamesOne : (Refusal → Type 0) → Type 0

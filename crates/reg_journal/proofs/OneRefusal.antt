@@ -1,5 +1,5 @@
 -- Each request is refused for one reason at most.
-use Rattle.std.proofs.Common.{◌≡◌, ◌≢◌, ◌<◌, ℕ, List, [], ◌∷◌, slice_get, refl, sym, subst, ap, ◌∙◌, inl, inr, arith, Bool, Option, Some, None, IsSomeAnd}
+use Rattle.std.proofs.Common.{◌≡◌, ℕ, List, [], ◌∷◌, slice_get, sym, subst, ap, ◌∙◌, Bool, Option, Some, None, IsSomeAnd}
 use Rattle.freq_range.specs.First.{IsFirst}
 use Rattle.freq_range.proofs.Firsts.{IsFirst-unique}
 use Rattle.freq_range.specs.declared.rule.Rule.{Rule}
@@ -18,8 +18,8 @@ use Rattle.reg_hints.specs.declared.element.ElementFault.TheVariants.{Short, Odd
 use Rattle.reg_journal.specs.Facts.{Journal, hinted, rules_are}
 use Rattle.reg_journal.specs.Present.{Iface, Operation, named, operation_of}
 use Rattle.reg_journal.specs.Applicable.{applies}
-use Rattle.reg_journal.specs.Causes.{Where, AtLowest, ◌before◌}
-use Rattle.reg_journal.specs.Permits.{asked_by, IsLimitOf, PassesLimit, LacksChannel, LacksWidth, LacksContext, RulesForbid, LacksRadarWidth, MetRadar, IsUnchecked, EndsOperation, EndsCheck, BarsOperation, BarsCheck}
+use Rattle.reg_journal.specs.Causes.{◌before◌}
+use Rattle.reg_journal.specs.Permits.{asked_by, IsLimitOf, PassesLimit, RulesForbid, EndsOperation, BarsOperation, BarsCheck}
 use Rattle.reg_journal.specs.Refusals.{MomentCauses, LacksRadio, RadioAddCauses, HasTooMany, IsTooLongAt, RowCauses, RulesCauses, all_lists, ElementCauses, HintCauses, IfaceAddCauses, LacksIface, OnIface, SetTypeCauses, SetPowerCauses, StopCauses, StartCauses, CheckCauses, RadarCauses}
 use Rattle.reg_journal.specs.declared.refusal.Refusal.{Refusal}
 use Rattle.reg_journal.specs.declared.refusal.Refusal.TheVariants.{Power, TooManyRows, BadRule, ElementShort, ElementOdd}

@@ -1,5 +1,5 @@
 -- Each request has one reply over a journal, and appends the same facts.
-use Rattle.std.proofs.Common.{◌≡◌, ◌≢◌, ◌+◌, ◌<◌, ℕ, List, [], ◌∷◌, ◌++◌, map, filter, refl, sym, subst, ap, ◌∙◌, inl, inr, ◌⊎◌, arith, Bool, Option, Some, None, IsSomeAnd, MatchOption}
+use Rattle.std.proofs.Common.{◌≡◌, ◌≢◌, ◌<◌, ℕ, List, [], ◌∷◌, ◌++◌, map, filter, refl, sym, subst, ap, ◌∙◌, inl, inr, ◌⊎◌, arith, Bool, Option, Some, None, IsSomeAnd, MatchOption}
 use Rattle.std.specs.Option.{option_map, option_to_list}
 use Rattle.std.specs.List.{AllZip}
 use Rattle.std.proofs.lemmas.List.Elements.{All-contains}
@@ -26,19 +26,18 @@ use Rattle.dfs_states.specs.Greatest.{IsGreatest}
 use Rattle.reg_hints.specs.Element.{IsElement}
 use Rattle.reg_hints.specs.Table.{Hinted}
 use Rattle.reg_hints.specs.declared.element.Element.{Element}
-use Rattle.reg_journal.specs.Facts.{Fact, Journal, hinted, stopped, powered, check_dropped, started, check_begun, set_to, moment_is, radio_added, radio_removed, rules_are, indoor_is, radar_met, made, ended, typed}
-use Rattle.reg_journal.specs.Present.{Iface, Operation, Check, abilities_of, named, operation_of, check_of, with_setting, now_of, ifaces_of, radios_of}
+use Rattle.reg_journal.specs.Facts.{Fact, Journal, stopped, powered, check_dropped, started, check_begun, set_to}
+use Rattle.reg_journal.specs.Present.{Iface, Operation, Check, abilities_of, named, operation_of, check_of, with_setting, now_of, radios_of}
 use Rattle.reg_journal.specs.Applicable.{applies, global_domains, global_region, region_of}
-use Rattle.reg_journal.specs.Causes.{IsFree, SomeComes}
 use Rattle.reg_journal.specs.Radar.{IsBarred, IsQuiet, Stands, IsState}
-use Rattle.reg_journal.specs.Permits.{asked_by, IsPowerOf, IsLengthOf, EndsOperation}
-use Rattle.reg_journal.specs.Sweep.{IsLost, OperationBecomes, CheckBecomes, Becomes, AreSwept}
+use Rattle.reg_journal.specs.Permits.{asked_by, IsPowerOf, IsLengthOf}
+use Rattle.reg_journal.specs.Sweep.{OperationBecomes, CheckBecomes, Becomes, AreSwept}
 use Rattle.reg_journal.specs.Effects.{effects_of}
-use Rattle.reg_journal.specs.Dumps.{AreShown, row_shown, IsSection, IsGlobalSection, IsRadioSection, AreSections, has_own_list, fit_shown, IsShownChannel, AreShownChannels, IsRadioReport, IsIfaceReport}
-use Rattle.reg_journal.specs.Replies.{facts_of_end, Decides, Gives, GivesEffects, Sweeps, Shows, OnNamed, Hints, Hears, answer_of, element_hint, driver_hint, SetsPower, Replies}
+use Rattle.reg_journal.specs.Dumps.{AreShown, row_shown, IsSection, IsRadioSection, AreSections, has_own_list, fit_shown, IsShownChannel, AreShownChannels, IsRadioReport, IsIfaceReport}
+use Rattle.reg_journal.specs.Replies.{facts_of_end, Decides, Gives, GivesEffects, Sweeps, Shows, OnNamed, Hints, Hears, element_hint, SetsPower, Replies}
 use Rattle.reg_journal.specs.declared.refusal.Refusal.{Refusal}
 use Rattle.reg_journal.specs.declared.reply.Answer.{Answer}
-use Rattle.reg_journal.specs.declared.reply.Answer.TheVariants.{Ok, Started, Checking, Refused, Hint as HintTaken}
+use Rattle.reg_journal.specs.declared.reply.Answer.TheVariants.{Ok, Started, Checking, Refused}
 use Rattle.reg_journal.specs.declared.reply.Reply.{Reply}
 use Rattle.reg_journal.specs.declared.reply.Reply.TheVariants.{Plain, Regs, Channels, Radio, Iface as OfIface}
 use Rattle.reg_journal.specs.declared.report.Section.{Section}

@@ -12,7 +12,7 @@ use Rattle.rule_tables.specs.declared.domain.Domain.{Domain}
 use Rattle.reg_hints.specs.Last.{world}
 use Rattle.reg_hints.specs.Table.{Hinted, Treated, Own, State, after_all, is_same_code}
 use Rattle.reg_hints.specs.declared.hint.Hint.TheVariants.{User, Driver, Element}
-use Rattle.reg_journal.specs.Facts.{Fact, Journal, moment_is, radio_added, radio_removed, rules_are, hinted, indoor_is, radar_met, made, ended, typed, set_to, started, stopped, powered, check_begun, check_dropped}
+use Rattle.reg_journal.specs.Facts.{Journal, hinted}
 use Rattle.reg_journal.specs.Present.{abilities_of, custom_rules_of}
 
 -- ---- hints
@@ -40,13 +40,13 @@ driver_code_of J r = driver_code_in (hinted_of J) r
 
 -- ---- domains
 
--- a rule of the world's domain: 20 dBm, with these flags beside none
+-- a rule of the world's domain, of 20 dBm
 abbrev pub world_rule : ℕ → ℕ → ℕ → RuleFlags → Rule
 world_rule start end width flags = record { start_khz = start; end_khz = end; max_bw_khz = width; flags = flags; eirp_mbm = 2000; cac_s = 0; wmm = None }
 
--- no flag but these
-abbrev pub passive : (dfs no_ir auto_bw : Bool) → RuleFlags
-passive dfs no_ir auto_bw = record { no_ofdm = false; no_outdoor = false; dfs = dfs; no_ir = no_ir; auto_bw = auto_bw }
+-- these flags and no others
+abbrev pub flags_of : (dfs no_ir auto_bw : Bool) → RuleFlags
+flags_of dfs no_ir auto_bw = record { no_ofdm = false; no_outdoor = false; dfs = dfs; no_ir = no_ir; auto_bw = auto_bw }
 
 -- What holds for the world where the database doesn't say: 2402 to 2472 MHz with 40 MHz, and 5170 to 5250 and 5250 to
 -- 5330 MHz with 80 MHz, where nobody may send first, and above 5250 MHz with radar detection.
@@ -54,9 +54,9 @@ abbrev pub world_domain : Domain
 world_domain = record {
   alpha2 = world;
   region = Unset;
-  rules = world_rule 2402000 2472000 40000 (passive false false false)
-      ∷ world_rule 5170000 5250000 80000 (passive false true true)
-      ∷ world_rule 5250000 5330000 80000 (passive true true true)
+  rules = world_rule 2402000 2472000 40000 (flags_of false false false)
+      ∷ world_rule 5170000 5250000 80000 (flags_of false true true)
+      ∷ world_rule 5250000 5330000 80000 (flags_of true true true)
       ∷ [];
 }
 

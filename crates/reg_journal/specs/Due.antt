@@ -1,5 +1,5 @@
 -- Where each kind of fact may come: what holds of every journal to which requests led.
-use Rattle.std.specs.Prelude.{◌≡◌, ◌≢◌, ℕ, ◌+◌, ◌^◌, ◌<◌, ◌≤◌, ◌⊎◌, Bool, true, false, List, [], ◌∷◌, length, All, Option, Some, None, IsSome, IsSomeAnd, IsTrue}
+use Rattle.std.specs.Prelude.{◌≡◌, ℕ, ◌+◌, ◌^◌, ◌<◌, ◌≤◌, ◌⊎◌, false, ◌||◌, List, [], ◌∷◌, length, All, None, IsSome, IsSomeAnd, IsTrue}
 use Rattle.freq_range.specs.Valid.{IsValidRule}
 use Rattle.rule_tables.specs.declared.code.Alpha2.{Alpha2}
 use Rattle.rule_tables.specs.declared.domain.Domain.{Domain}
@@ -8,9 +8,10 @@ use Rattle.chan_def.specs.Kinds.{initiates}
 use Rattle.chan_def.specs.declared.kind.Kind.TheVariants.{Monitor}
 use Rattle.chan_flags.specs.Profiles.{IsProfile}
 use Rattle.reg_hints.specs.Table.{Hinted, Treated, Own, hinted_code, IsOneTooMany}
+use Rattle.reg_hints.specs.declared.hint.Hint.TheVariants.{User, Driver, Element}
 use Rattle.reg_journal.specs.Facts.{Fact, Journal, moment_is, radio_added, radio_removed, rules_are, hinted, indoor_is, radar_met, made, ended, typed, set_to, started, stopped, powered, check_begun, check_dropped}
-use Rattle.reg_journal.specs.Present.{Iface, now_of, is_used, profile_of, ifaces_on, made_of, named, indexed, operation_of, check_of}
-use Rattle.reg_journal.specs.Applicable.{hints_of, find_domain}
+use Rattle.reg_journal.specs.Present.{last_moment, most_made, now_of, abilities_of, is_used, profile_of, ifaces_on, made_of, named, indexed, operation_of, check_of}
+use Rattle.reg_journal.specs.Applicable.{hints_of, find_domain, is_self_managed}
 
 -- the interface is there, and has neither an operation nor a running check
 abbrev pub IsResting : Journal → ℕ → Type 0
@@ -28,19 +29,26 @@ code_of_hint (Own r a) = a
 -- the hint may come: its domain is known, and it adds no fifth one
 abbrev pub IsHintDue : List Domain → Journal → Hinted → Type 0
 IsHintDue db J (Treated hint) = IsSome (find_domain db (hinted_code hint)) × (IsOneTooMany (hints_of J) hint → ⊥)
-IsHintDue db J (Own r a) = IsSome (find_domain db a) × (r < 8)
+IsHintDue db J (Own r a) = IsSome (find_domain db a)
+
+-- the radio that the hint names is there, and the hint is taken as its profile says
+abbrev pub FitsItsRadio : Journal → Hinted → Type 0
+FitsItsRadio J (Treated (User a)) = Unit {0}
+FitsItsRadio J (Treated (Driver r a)) = IsSome (profile_of J r) × (is_self_managed J r ≡ false)
+FitsItsRadio J (Treated (Element r a deaf)) = IsSome (profile_of J r) × (deaf ≡ ((abilities_of J r).deaf || is_self_managed J r))
+FitsItsRadio J (Own r a) = IsSome (profile_of J r) × IsTrue (is_self_managed J r)
 
 -- the fact may come after the journal
 abbrev pub IsDue : List Domain → Journal → Fact → Type 0
-IsDue db J (moment_is moment) = (now_of J ≤ moment) × (moment ≤ 10 ^ 15)
+IsDue db J (moment_is moment) = (now_of J ≤ moment) × (moment ≤ last_moment)
 IsDue db J (radio_added r profile) = (r < 8) × (is_used J r ≡ false) × IsProfile profile
 IsDue db J (radio_removed r) = IsSome (profile_of J r) × (ifaces_on J r ≡ [])
 IsDue db J (rules_are r rules) = IsSome (profile_of J r) × (0 < length rules) × (length rules ≤ 32) × All IsValidRule rules
-IsDue db J (hinted hint) = IsHintDue db J hint
+IsDue db J (hinted hint) = IsHintDue db J hint × FitsItsRadio J hint
 IsDue db J (indoor_is on) = Unit {0}
 IsDue db J (radar_met r chan) = IsSome (profile_of J r) × IsValidDef chan
 IsDue db J (made i name r kind) =
-    (i ≡ made_of J + 1) × (i < 2 ^ 32) × (named J name ≡ None) × IsSome (profile_of J r) × (length (ifaces_on J r) < 8)
+    (i ≡ made_of J + 1) × (i ≤ most_made) × (named J name ≡ None) × IsSome (profile_of J r) × (length (ifaces_on J r) < 8)
 IsDue db J (ended i) = IsResting J i
 IsDue db J (typed i kind) = IsResting J i
 IsDue db J (set_to i setting) = IsSome (indexed J i)

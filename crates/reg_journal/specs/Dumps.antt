@@ -1,5 +1,5 @@
 -- What is shown: sections of rules, channels, radios and interfaces.
-use Rattle.std.specs.Prelude.{◌≡◌, ℕ, ◌+◌, ◌*◌, ◌⊎◌, min, Bool, true, false, ◌||◌, List, [], ◌∷◌, ◌++◌, map, filter, Option, Some, None, is_some, MatchOption}
+use Rattle.std.specs.Prelude.{◌≡◌, ℕ, ◌+◌, ◌*◌, min, Bool, ◌||◌, List, [], ◌∷◌, map, filter, Option, Some, None, is_some}
 use Rattle.std.specs.List.{AllZip}
 use Rattle.std.specs.Option.{option_map}
 use Rattle.freq_range.specs.declared.rule.Rule.{Rule}
@@ -10,7 +10,6 @@ use Rattle.rule_intersect.specs.Tables.{AreRows}
 use Rattle.rule_intersect.specs.declared.row.Row.{Row}
 use Rattle.chan_def.specs.declared.kind.Kind.{Kind}
 use Rattle.chan_flags.specs.Lists.{AreChannels}
-use Rattle.chan_flags.specs.Profiles.{Abilities}
 use Rattle.chan_flags.specs.Records.{IsRecord}
 use Rattle.chan_flags.specs.declared.record.Chan.{Chan}
 use Rattle.chan_flags.specs.declared.record.Fit.{Fit}

@@ -1,8 +1,8 @@
 -- The effects that a reply tells of.
-use Rattle.std.specs.Prelude.{ℕ, List, [], ◌∷◌, Option, Some, None}
+use Rattle.std.specs.Prelude.{List, Option, None}
 use Rattle.std.specs.List.{filter_map}
 use Rattle.std.specs.Option.{option_map}
-use Rattle.reg_journal.specs.Facts.{Fact, Journal, moment_is, radio_added, radio_removed, rules_are, hinted, indoor_is, radar_met, made, ended, typed, set_to, started, stopped, powered, check_begun, check_dropped}
+use Rattle.reg_journal.specs.Facts.{Fact, Journal, stopped, powered, check_dropped}
 use Rattle.reg_journal.specs.Present.{indexed}
 use Rattle.reg_journal.specs.declared.effects.Effect.{Effect}
 use Rattle.reg_journal.specs.declared.effects.Effect.TheVariants.{Stopped, Dropped, Power}

@@ -1,10 +1,11 @@
 -- What a radio's driver has on air.
-use Rattle.std.specs.Prelude.{ℕ, ◌==◌, Bool, false, List, [], ◌∷◌, if◌then◌else◌}
+use Rattle.std.specs.Prelude.{ℕ, ◌==◌, Bool, false, List, [], ◌∷◌, Option, Some, None, if◌then◌else◌}
 use Rattle.std.specs.Option.{option_map_or}
 use Rattle.chan_def.specs.declared.definition.ChanDef.{ChanDef}
 use Rattle.radio_drv.specs.Air.{started as put_on_air, stopped as taken_off, powered as given_power}
+use Rattle.radio_drv.specs.declared.on_air.CheckTold.{CheckTold}
 use Rattle.radio_drv.specs.declared.on_air.OnAir.{OnAir}
-use Rattle.reg_journal.specs.Facts.{Fact, Journal, moment_is, radio_added, radio_removed, rules_are, hinted, indoor_is, radar_met, made, ended, typed, set_to, started, stopped, powered, check_begun, check_dropped}
+use Rattle.reg_journal.specs.Facts.{Journal, started, stopped, powered, check_begun}
 use Rattle.reg_journal.specs.Present.{radio_of}
 
 abbrev pub entry : ℕ → ChanDef → ℕ → OnAir
@@ -22,3 +23,9 @@ on_air_of (started i chan power ∷ J) r = if is_on J i r then put_on_air (entry
 on_air_of (stopped i ∷ J) r = if is_on J i r then taken_off i (on_air_of J r) else on_air_of J r
 on_air_of (powered i power ∷ J) r = if is_on J i r then given_power i power (on_air_of J r) else on_air_of J r
 on_air_of (f ∷ J) r = on_air_of J r
+
+-- the check last told to the radio's driver: that of the last check begun on the radio
+abbrev pub told_of : Journal → ℕ → Option CheckTold
+told_of [] r = None
+told_of (check_begun i chan length ∷ J) r = if is_on J i r then Some (record { iface = i; chan = chan; length_ms = length }) else told_of J r
+told_of (f ∷ J) r = told_of J r

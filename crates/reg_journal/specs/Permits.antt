@@ -1,10 +1,10 @@
 -- What speaks against a channel for an interface: its radio, the rules of the domains that apply, and radar.
 -- Below, x is an interface and c the channel.
-use Rattle.std.specs.Prelude.{◌≡◌, ℕ, ◌+◌, ◌*◌, ◌/◌, ◌<◌, ◌==◌, Bool, true, false, ◌&&◌, List, [], ◌∷◌, ◌++◌, length, filter, Option, Some, None, IsTrue, if◌then◌else◌}
+use Rattle.std.specs.Prelude.{◌≡◌, ℕ, ◌/◌, ◌<◌, ◌==◌, Bool, ◌&&◌, List, [], ◌∷◌, ◌++◌, length, filter, Option, Some, None, IsTrue, if◌then◌else◌}
 use Rattle.std.specs.List.{filter_map, list_any}
 use Rattle.std.specs.Option.{option_map}
 use Rattle.rule_tables.specs.declared.domain.Domain.{Domain}
-use Rattle.chan_def.specs.Covered.{width_khz, IsCovered, IsValidDef}
+use Rattle.chan_def.specs.Covered.{width_khz, IsCovered}
 use Rattle.chan_def.specs.Kinds.{initiates}
 use Rattle.chan_def.specs.declared.definition.ChanDef.{ChanDef}
 use Rattle.chan_def.specs.declared.width.Width.{Width}
@@ -46,10 +46,14 @@ width_place W160 = 4
 abbrev pub is_same_channel : ChanDef → ChanDef → Bool
 is_same_channel one other = one.control_khz == other.control_khz && width_place one.width == width_place other.width && one.centre_khz == other.centre_khz
 
+-- these channels, and each of the others once that isn't among them
+abbrev pub distinct_from : List ChanDef → List ChanDef → List ChanDef
+distinct_from found [] = found
+distinct_from found (c ∷ cs) = distinct_from (if list_any (is_same_channel c) found then found else found ++ c ∷ []) cs
+
 -- each channel of the list once
 abbrev pub distinct : List ChanDef → List ChanDef
-distinct [] = []
-distinct (c ∷ cs) = if list_any (is_same_channel c) cs then distinct cs else c ∷ distinct cs
+distinct cs = distinct_from [] cs
 
 -- the channel that the interface is on: that of its operation, or else of its running check
 abbrev pub channel_in : Option Operation → Option Check → Option ChanDef
@@ -110,12 +114,12 @@ abbrev pub MetRadar : List Domain → Journal → Iface → ChanDef → Refusal 
 MetRadar db J x c = AtLowest (λ s. IsTrue (initiates x.kind) × IsBoundOn db J x.radio s × (IsQuiet J x.radio s → ⊥)) c Radar
 
 -- no check stands for a subchannel that has to be checked
-abbrev pub IsUnchecked : List Domain → Journal → Iface → ChanDef → Refusal → Type 0
-IsUnchecked db J x c = AtLowest (λ s. IsTrue (initiates x.kind) × IsBoundOn db J x.radio s × NoneStands db J x.radio s) c Unchecked
+abbrev pub LacksCheck : List Domain → Journal → Iface → ChanDef → Refusal → Type 0
+LacksCheck db J x c = AtLowest (λ s. IsTrue (initiates x.kind) × IsBoundOn db J x.radio s × NoneStands db J x.radio s) c Unchecked
 
 -- a check stands for each subchannel that has to be checked, or none has to be
-abbrev pub IsChecked : List Domain → Journal → Iface → ChanDef → Type 0
-IsChecked db J x c = (s : ℕ) → IsCovered c s → IsBoundOn db J x.radio s → (end : ℕ) × Stands db J x.radio s end
+abbrev pub HasNothingToCheck : List Domain → Journal → Iface → ChanDef → Type 0
+HasNothingToCheck db J x c = (s : ℕ) → IsCovered c s → IsBoundOn db J x.radio s → (end : ℕ) × Stands db J x.radio s end
 
 -- how long the channel is checked, in ms
 abbrev pub IsLengthOf : List Domain → Journal → Iface → ChanDef → ℕ → Type 0
@@ -127,9 +131,9 @@ IsLengthOf db J x c = IsCheckLength (applies db J x.radio) (asked_by J x c)
 abbrev pub EndsOperation : List Domain → Journal → Iface → ChanDef → Refusal → Type 0
 EndsOperation db J x c =
     LacksChannel db J x c before LacksWidth J x c before RulesForbid db J x c before PassesLimit db J x c
-    before LacksRadarWidth db J x c before MetRadar db J x c before IsUnchecked db J x c
+    before LacksRadarWidth db J x c before MetRadar db J x c before LacksCheck db J x c
 
--- what ends a check of the channel
+-- the refusals that end a running check of the channel; a change of region ends it too
 abbrev pub EndsCheck : List Domain → Journal → Iface → ChanDef → Refusal → Type 0
 EndsCheck db J x c =
     LacksChannel db J x c before LacksWidth J x c before RulesForbid db J x c
@@ -139,7 +143,7 @@ EndsCheck db J x c =
 abbrev pub BarsOperation : List Domain → Journal → Iface → ChanDef → Refusal → Type 0
 BarsOperation db J x c =
     LacksChannel db J x c before LacksWidth J x c before LacksContext J x c before RulesForbid db J x c before PassesLimit db J x c
-    before LacksRadarWidth db J x c before MetRadar db J x c before IsUnchecked db J x c
+    before LacksRadarWidth db J x c before MetRadar db J x c before LacksCheck db J x c
 
 -- what keeps a check from the channel
 abbrev pub BarsCheck : List Domain → Journal → Iface → ChanDef → Refusal → Type 0

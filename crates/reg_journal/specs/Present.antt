@@ -1,5 +1,5 @@
 -- What the facts say of the moment, of radios and of interfaces: always by the last fact on them.
-use Rattle.std.specs.Prelude.{ℕ, ◌+◌, ◌==◌, nat_lt, Bool, true, false, ◌||◌, not, List, [], ◌∷◌, ◌++◌, map, filter, find, Option, Some, None, is_some, unwrap_or, if◌then◌else◌, option_and_then}
+use Rattle.std.specs.Prelude.{ℕ, ◌+◌, ◌^◌, ◌==◌, nat_lt, Bool, false, ◌||◌, ◌&&◌, not, List, [], ◌∷◌, ◌++◌, map, filter, find, Option, Some, None, is_some, unwrap_or, if◌then◌else◌, option_and_then}
 use Rattle.std.specs.Option.{option_map}
 use Rattle.freq_range.specs.declared.rule.Rule.{Rule}
 use Rattle.chan_def.specs.declared.definition.ChanDef.{ChanDef}
@@ -7,8 +7,18 @@ use Rattle.chan_def.specs.declared.kind.Kind.{Kind}
 use Rattle.chan_flags.specs.Profiles.{Abilities, abilities}
 use Rattle.chan_flags.specs.declared.verdict.PowerSetting.{PowerSetting}
 use Rattle.chan_flags.specs.declared.verdict.PowerSetting.TheVariants.{Auto}
-use Rattle.reg_journal.specs.Facts.{Fact, Journal, moment_is, radio_added, radio_removed, rules_are, hinted, indoor_is, radar_met, made, ended, typed, set_to, started, stopped, powered, check_begun, check_dropped}
+use Rattle.reg_journal.specs.Facts.{Journal, moment_is, radio_added, radio_removed, rules_are, indoor_is, made, ended, typed, set_to, started, stopped, powered, check_begun, check_dropped}
 use Rattle.reg_journal.specs.Names.{is_same_name}
+
+-- ---- limits
+
+-- the last moment, in ms
+abbrev pub last_moment : ℕ
+last_moment = 10 ^ 15
+
+-- how many interfaces can be made: an index is a number of 32 bits
+abbrev pub most_made : ℕ
+most_made = 4294967295
 
 -- ---- the moment, and where the radios stand
 
@@ -25,7 +35,7 @@ is_indoor (f ∷ J) = is_indoor J
 
 -- ---- radios
 
--- a radio of this number was there once
+-- a radio of this number is there, or was
 abbrev pub is_used : Journal → ℕ → Bool
 is_used [] r = false
 is_used (radio_added q profile ∷ J) r = r == q || is_used J r
@@ -38,7 +48,7 @@ profile_of (radio_added q profile ∷ J) r = if r == q then Some profile else pr
 profile_of (radio_removed q ∷ J) r = if r == q then None else profile_of J r
 profile_of (f ∷ J) r = profile_of J r
 
--- a radio that isn't there can nothing
+-- a radio that isn't there can do nothing
 abbrev pub no_abilities : Abilities
 no_abilities = abilities (record { ghz2 = false; ghz5 = false; ghz6 = false }) 0 0 0 0 false false
 
@@ -50,6 +60,10 @@ abbrev pub custom_rules_of : Journal → ℕ → Option (List Rule)
 custom_rules_of [] r = None
 custom_rules_of (rules_are q rules ∷ J) r = if r == q then Some rules else custom_rules_of J r
 custom_rules_of (f ∷ J) r = custom_rules_of J r
+
+-- the radio was there, and has gone
+abbrev pub is_removed : Journal → ℕ → Bool
+is_removed J r = is_used J r && not (is_some (profile_of J r))
 
 -- the radios that are there, by number
 abbrev pub radios_of : Journal → List ℕ

@@ -1,13 +1,14 @@
 -- Radar and checks, over the whole journal: quiet subchannels, and checks that stand for one.
-use Rattle.std.specs.Prelude.{◌≡◌, ℕ, ◌+◌, ◌<◌, ◌≤◌, ◌⊎◌, List, [], ◌∷◌, ◌++◌, Option, Some, None, MatchOption}
+use Rattle.std.specs.Prelude.{◌≡◌, ℕ, ◌+◌, ◌<◌, ◌≤◌, List, ◌∷◌, ◌++◌, Some}
 use Rattle.rule_tables.specs.declared.domain.Domain.{Domain}
 use Rattle.chan_def.specs.Covered.{IsCovered}
 use Rattle.chan_def.specs.declared.definition.ChanDef.{ChanDef}
+use Rattle.chan_flags.specs.Lists.{IsRadioChannel}
 use Rattle.dfs_states.specs.Greatest.{IsGreatest}
 use Rattle.dfs_states.specs.declared.dfs.Dfs.{Dfs}
 use Rattle.dfs_states.specs.declared.dfs.Dfs.TheVariants.{Usable, Unavailable, Available}
 use Rattle.reg_journal.specs.Facts.{Fact, Journal, radar_met, check_begun, check_dropped}
-use Rattle.reg_journal.specs.Present.{now_of, radio_of}
+use Rattle.reg_journal.specs.Present.{now_of, abilities_of, radio_of}
 use Rattle.reg_journal.specs.Applicable.{region_of}
 
 -- how long a subchannel stays unavailable after radar, in ms: 30 minutes
@@ -87,3 +88,8 @@ abbrev pub IsState : List Domain → Journal → ℕ → ℕ → Dfs → Type 0
 IsState db J r s (Unavailable until) = IsGreatest (IsBarred J r s) until × (now_of J < until)
 IsState db J r s (Available since) = IsQuiet J r s × IsGreatest (Stands db J r s) since
 IsState db J r s Usable = IsQuiet J r s × NoneStands db J r s
+
+-- the state of any centre: that of a channel of the radio's bands, and usable for any other
+pub record IsChannelState (db : List Domain) (J : Journal) (r s : ℕ) (dfs : Dfs) : Type 0 where
+  pub of_channel : IsRadioChannel (abilities_of J r).bands s → IsState db J r s dfs
+  pub of_other : (IsRadioChannel (abilities_of J r).bands s → ⊥) → dfs ≡ Usable

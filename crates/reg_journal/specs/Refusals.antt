@@ -1,5 +1,5 @@
 -- Why each request is refused, in order.
-use Rattle.std.specs.Prelude.{◌≡◌, ◌≢◌, ℕ, ◌^◌, ◌<◌, ◌≤◌, ◌⊎◌, Bool, true, List, [], ◌∷◌, length, map, slice_get, Option, Some, None, IsSome, IsTrue, IsSomeAnd}
+use Rattle.std.specs.Prelude.{◌≡◌, ◌≢◌, ℕ, ◌<◌, ◌≤◌, ◌⊎◌, Bool, List, [], ◌∷◌, length, map, slice_get, Some, None, IsSome, IsTrue, IsSomeAnd}
 use Rattle.freq_range.specs.First.{IsFirst}
 use Rattle.freq_range.specs.declared.rule.Rule.{Rule}
 use Rattle.rule_tables.specs.Domains.{IsInvalidAt}
@@ -16,18 +16,18 @@ use Rattle.chan_flags.specs.declared.verdict.PowerSetting.{PowerSetting}
 use Rattle.reg_hints.specs.Element.{IsElementFault}
 use Rattle.reg_hints.specs.Table.{Hinted, Treated, Own, IsOneTooMany}
 use Rattle.reg_hints.specs.declared.element.ElementFault.TheVariants.{Short, Odd, NotLetters}
-use Rattle.reg_journal.specs.Facts.{Fact, Journal, hinted, rules_are}
-use Rattle.reg_journal.specs.Present.{Iface, Operation, Check, now_of, is_used, profile_of, radios_of, made_of, named, ifaces_on, operation_of, check_of}
+use Rattle.reg_journal.specs.Facts.{Journal, hinted, rules_are}
+use Rattle.reg_journal.specs.Present.{Iface, last_moment, most_made, now_of, is_used, profile_of, radios_of, made_of, named, ifaces_on, operation_of, check_of}
 use Rattle.reg_journal.specs.Applicable.{hints_of, find_domain, global_domains, applies}
 use Rattle.reg_journal.specs.Causes.{◌before◌, Where}
-use Rattle.reg_journal.specs.Permits.{IsLimitOf, BarsOperation, BarsCheck, IsChecked}
+use Rattle.reg_journal.specs.Permits.{IsLimitOf, BarsOperation, BarsCheck, HasNothingToCheck}
 use Rattle.reg_journal.specs.declared.refusal.Refusal.{Refusal}
 use Rattle.reg_journal.specs.declared.refusal.Refusal.TheVariants.{MomentBack, MomentTooLarge, NoRadio, SlotUsed, NoInterface, NameTaken, Full, WrongType, Busy, BadChannel, Power, DriverFailed, NothingToCheck, NotRunning, NoCountry, TooManyDomains, TooManyRows, NoRules, TooManyRules, BadRule, ElementShort, ElementOdd, ElementNotLetters}
 
 -- ---- moments and radios
 
 abbrev pub MomentCauses : Journal → ℕ → Refusal → Type 0
-MomentCauses J m = Where (10 ^ 15 < m) (MomentTooLarge m) before Where (m < now_of J) (MomentBack (now_of J))
+MomentCauses J m = Where (last_moment < m) (MomentTooLarge m) before Where (m < now_of J) (MomentBack (now_of J))
 
 abbrev pub LacksRadio : Journal → ℕ → Refusal → Type 0
 LacksRadio J r = Where (profile_of J r ≡ None) (NoRadio r)
@@ -71,15 +71,15 @@ ElementCauses body =
     before Where (IsElementFault body NotLetters) ElementNotLetters
 
 -- a driver's hint on a radio that manages itself never touches the global list
-abbrev pub IsFifth : Journal → Hinted → Type 0
-IsFifth J (Treated hint) = IsOneTooMany (hints_of J) hint
-IsFifth J (Own r a) = ⊥
+abbrev pub AddsFifthCode : Journal → Hinted → Type 0
+AddsFifthCode J (Treated hint) = IsOneTooMany (hints_of J) hint
+AddsFifthCode J (Own r a) = ⊥
 
 -- what speaks against a hint for this code, which would be taken so
 abbrev pub HintCauses : List Domain → Journal → Alpha2 → Hinted → Refusal → Type 0
 HintCauses db J a hint =
     Where (find_domain db a ≡ None) (NoCountry a)
-    before Where (IsFifth J hint) TooManyDomains
+    before Where (AddsFifthCode J hint) TooManyDomains
     before RowCauses (all_lists db (hinted hint ∷ J))
 
 -- ---- interfaces
@@ -88,7 +88,7 @@ abbrev pub IfaceAddCauses : Journal → ℕ → List ℕ → Refusal → Type 0
 IfaceAddCauses J r name =
     LacksRadio J r
     before Where (IsSome (named J name)) (NameTaken name)
-    before Where ((8 ≤ length (ifaces_on J r)) ⊎ (4294967295 ≤ made_of J)) Full
+    before Where ((8 ≤ length (ifaces_on J r)) ⊎ (most_made ≤ made_of J)) Full
 
 abbrev pub LacksIface : Journal → List ℕ → Refusal → Type 0
 LacksIface J name = Where (named J name ≡ None) (NoInterface name)
@@ -117,18 +117,18 @@ StopCauses J name kind = OnIface J name (λ x. Where (x.kind ≢ kind) WrongType
 abbrev pub FailsDriver : Bool → Refusal → Type 0
 FailsDriver failed = Where (IsTrue failed) DriverFailed
 
-abbrev pub IsBadChannel : ChanDef → Refusal → Type 0
-IsBadChannel c = Where (IsValidDef c → ⊥) BadChannel
+abbrev pub InvalidChannel : ChanDef → Refusal → Type 0
+InvalidChannel c = Where (IsValidDef c → ⊥) BadChannel
 
 -- a running check, or an operation that this start doesn't replace: a monitor's alone is replaced
-abbrev pub IsBusyFor : Journal → Iface → Kind → Type 0
-IsBusyFor J x kind = IsSome (check_of J x.index) ⊎ (IsSome (operation_of J x.index) × (kind ≢ Monitor))
+abbrev pub InUseFor : Journal → Iface → Kind → Type 0
+InUseFor J x kind = IsSome (check_of J x.index) ⊎ (IsSome (operation_of J x.index) × (kind ≢ Monitor))
 
 abbrev pub StartCauses : List Domain → Journal → List ℕ → Kind → ChanDef → Bool → Refusal → Type 0
 StartCauses db J name kind c failed = OnIface J name (λ x.
     Where (x.kind ≢ kind) WrongType
-    before Where (IsBusyFor J x kind) Busy
-    before IsBadChannel c
+    before Where (InUseFor J x kind) Busy
+    before InvalidChannel c
     before BarsOperation db J x c
     before FailsDriver failed)
 
@@ -136,10 +136,10 @@ abbrev pub CheckCauses : List Domain → Journal → List ℕ → ChanDef → Bo
 CheckCauses db J name c failed = OnIface J name (λ x.
     Where (IsTrue (initiates x.kind) → ⊥) WrongType
     before Where (IsInUse J x) Busy
-    before IsBadChannel c
+    before InvalidChannel c
     before BarsCheck db J x c
-    before Where (IsChecked db J x c) NothingToCheck
+    before Where (HasNothingToCheck db J x c) NothingToCheck
     before FailsDriver failed)
 
 abbrev pub RadarCauses : Journal → ℕ → ChanDef → Refusal → Type 0
-RadarCauses J r c = LacksRadio J r before IsBadChannel c
+RadarCauses J r c = LacksRadio J r before InvalidChannel c

@@ -1,21 +1,17 @@
 -- What is replied to each request over the journal, and which facts it appends: the first refusal whose condition holds, with
 -- no fact, or else what is granted.
-use Rattle.std.specs.Prelude.{◌≡◌, ◌≢◌, ℕ, ◌+◌, ◌≤◌, ◌⊎◌, Bool, true, false, ◌||◌, cond, List, [], ◌∷◌, ◌++◌, All, Option, Some, None, MatchOption, IsSomeAnd, IsTrue}
+use Rattle.std.specs.Prelude.{◌≡◌, ◌≢◌, ℕ, ◌+◌, ◌<◌, ◌⊎◌, Bool, ◌||◌, cond, List, [], ◌∷◌, ◌++◌, All, None, MatchOption, IsSomeAnd}
 use Rattle.std.specs.List.{flat_map}
-use Rattle.std.specs.Option.{option_to_list}
-use Rattle.freq_range.specs.declared.rule.Rule.{Rule}
 use Rattle.rule_tables.specs.declared.code.Alpha2.{Alpha2}
 use Rattle.rule_tables.specs.declared.domain.Domain.{Domain}
-use Rattle.chan_def.specs.declared.definition.ChanDef.{ChanDef}
-use Rattle.chan_def.specs.declared.kind.Kind.{Kind}
+use Rattle.chan_flags.specs.Profiles.{IsProfile}
 use Rattle.chan_flags.specs.declared.verdict.PowerSetting.{PowerSetting}
 use Rattle.reg_hints.specs.Element.{IsElement}
 use Rattle.reg_hints.specs.Table.{Hinted, Treated, Own, treatment}
 use Rattle.reg_hints.specs.declared.element.Element.{Element}
-use Rattle.reg_hints.specs.declared.hint.Hint.{Hint}
 use Rattle.reg_hints.specs.declared.hint.Hint.TheVariants.{User, Driver, Element as ElementHint}
-use Rattle.reg_journal.specs.Facts.{Fact, Journal, after, moment_is, radio_added, radio_removed, rules_are, hinted, indoor_is, radar_met, made, ended, typed, set_to, started, stopped, powered, check_begun, check_dropped}
-use Rattle.reg_journal.specs.Present.{Iface, Operation, abilities_of, ifaces_of, ifaces_on, made_of, named, operation_of, with_setting}
+use Rattle.reg_journal.specs.Facts.{Fact, Journal, after, moment_is, radio_added, radio_removed, rules_are, hinted, indoor_is, radar_met, made, ended, typed, set_to, started, stopped, powered, check_begun}
+use Rattle.reg_journal.specs.Present.{Iface, abilities_of, ifaces_of, ifaces_on, made_of, named, operation_of, with_setting}
 use Rattle.reg_journal.specs.Applicable.{hints_of, is_self_managed}
 use Rattle.reg_journal.specs.Causes.{◌before◌, IsFree}
 use Rattle.reg_journal.specs.Permits.{IsPowerOf, IsLengthOf}
@@ -23,7 +19,6 @@ use Rattle.reg_journal.specs.Refusals.{MomentCauses, LacksRadio, RadioAddCauses,
 use Rattle.reg_journal.specs.Sweep.{AreSwept, released}
 use Rattle.reg_journal.specs.Effects.{effects_of}
 use Rattle.reg_journal.specs.Dumps.{AreSections, AreShownChannels, IsRadioReport, IsIfaceReport}
-use Rattle.reg_journal.specs.declared.effects.Effect.{Effect}
 use Rattle.reg_journal.specs.declared.refusal.Refusal.{Refusal}
 use Rattle.reg_journal.specs.declared.reply.Answer.{Answer}
 use Rattle.reg_journal.specs.declared.reply.Answer.TheVariants.{Ok, Hint as HintTaken, Started, Checking, Refused}
@@ -141,8 +136,9 @@ Replies db J (IfaceInfo name) failed = Decides (LacksIface J name)
 abbrev pub Steps : List Domain → Journal → Request → Bool → Reply → Journal → Type 0
 Steps db J q failed reply next = (facts : List Fact) × Replies db J q failed reply facts × (next ≡ after facts J)
 
--- Custom rules carry neither a check time nor a WMM rule.
+-- A radio has a number and a profile that there are; a radio's own rules carry neither a check time nor a WMM rule.
 abbrev pub IsAskable : Request → Type 0
+IsAskable (RadioAdd r profile) = (r < 8) × IsProfile profile
 IsAskable (RadioRules r rules) = All (λ rule. (rule.cac_s ≡ 0) × (rule.wmm ≡ None)) rules
 IsAskable q = Unit {0}
 

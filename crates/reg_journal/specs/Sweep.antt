@@ -3,7 +3,7 @@ use Rattle.std.specs.Prelude.{◌≡◌, ◌≢◌, ℕ, ◌⊎◌, List, [], �
 use Rattle.std.specs.Option.{option_to_list}
 use Rattle.rule_tables.specs.declared.domain.Domain.{Domain}
 use Rattle.chan_def.specs.declared.definition.ChanDef.{ChanDef}
-use Rattle.reg_journal.specs.Facts.{Fact, Journal, moment_is, radio_added, radio_removed, rules_are, hinted, indoor_is, radar_met, made, ended, typed, set_to, started, stopped, powered, check_begun, check_dropped}
+use Rattle.reg_journal.specs.Facts.{Fact, Journal, stopped, powered, check_begun, check_dropped}
 use Rattle.reg_journal.specs.Present.{Iface, Operation, Check, operation_of, check_of}
 use Rattle.reg_journal.specs.Applicable.{region_of}
 use Rattle.reg_journal.specs.Causes.{SomeComes, IsFree}
@@ -12,7 +12,7 @@ use Rattle.reg_journal.specs.Permits.{EndsOperation, EndsCheck, IsPowerOf}
 
 -- The region of the interface's radio changed after the interface's last check began: at some fact it differs just after
 -- from just before.
-pub record IsMoved (db : List Domain) (J : Journal) (x : Iface) : Type 0 where
+pub record RegionChangedInCheck (db : List Domain) (J : Journal) (x : Iface) : Type 0 where
   pub newer : Journal
   pub chan : ChanDef
   pub length : ℕ
@@ -27,8 +27,8 @@ pub record IsMoved (db : List Domain) (J : Journal) (x : Iface) : Type 0 where
       ≢ region_of db (between ++ check_begun x.index chan length ∷ older) x.radio
 
 -- the running check has to go
-abbrev pub IsLost : List Domain → Journal → Iface → Check → Type 0
-IsLost db J x k = SomeComes (EndsCheck db J x k.chan) ⊎ IsMoved db J x
+abbrev pub MustDrop : List Domain → Journal → Iface → Check → Type 0
+MustDrop db J x k = SomeComes (EndsCheck db J x k.chan) ⊎ RegionChangedInCheck db J x
 
 -- What becomes of an operation: it stops where something ends it, goes on with another power where the rules give another,
 -- or goes on as it is.
@@ -40,8 +40,8 @@ OperationBecomes db J x o (Some f) = ⊥
 
 -- What becomes of a running check: it is dropped, or goes on.
 abbrev pub CheckBecomes : List Domain → Journal → Iface → Check → Option Fact → Type 0
-CheckBecomes db J x k None = IsLost db J x k → ⊥
-CheckBecomes db J x k (Some (check_dropped i)) = (i ≡ x.index) × IsLost db J x k
+CheckBecomes db J x k None = MustDrop db J x k → ⊥
+CheckBecomes db J x k (Some (check_dropped i)) = (i ≡ x.index) × MustDrop db J x k
 CheckBecomes db J x k (Some f) = ⊥
 
 -- what becomes of an interface: no interface has both an operation and a running check

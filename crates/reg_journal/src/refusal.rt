@@ -53,7 +53,7 @@ pub enum Refusal {
     Unchecked(u32),
     /// The driver failed.
     DriverFailed,
-    /// No subchannel has to be checked.
+    /// A check stands for each subchannel that has to be checked, or none has to be.
     NothingToCheck,
     /// The interface has no operation.
     NotRunning,

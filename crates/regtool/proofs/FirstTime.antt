@@ -5,7 +5,7 @@ use Rattle.freq_range.specs.First.{IsFirst}
 use Rattle.freq_range.specs.declared.rule.Rule.{Rule}
 use Rattle.rule_tables.specs.declared.code.Alpha2.{Alpha2}
 use Rattle.rule_tables.specs.declared.domain.Domain.{Domain}
-use Rattle.db_reader.proofs.OneFault.{IsFirst-unique}
+use Rattle.freq_range.proofs.Firsts.{IsFirst-unique}
 use Rattle.db_text.specs.Printed.{HasTimeAt, IsFirstTime, LacksTimes, LackTimes}
 use Rattle.regtool.specs.declared.status.InputFault.TheVariants.{CacTime}
 

@@ -1,0 +1,86 @@
+-- What a verdict of the domains says of the causes, in their order.
+use Rattle.std.proofs.Common.{List, [], ◌∷◌, refl, ap, subst, inl, inr, arith}
+use Rattle.rule_tables.specs.declared.domain.Domain.{Domain}
+use Rattle.chan_def.specs.declared.definition.ChanDef.{ChanDef}
+use Rattle.chan_flags.specs.Verdicts.{Bars, BarsNone, NoneBars, HasWidth, IsAbove, IsVerdict}
+use Rattle.chan_flags.specs.declared.asked.Obstacle.TheVariants.{Missing, Unruled, Narrow, OfdmBarred, IrBarred, OutdoorBarred}
+use Rattle.chan_flags.specs.declared.verdict.ChanRefusal.{ChanRefusal}
+use Rattle.chan_flags.specs.declared.verdict.ChanRefusal.TheVariants.{LacksChannel as Lacking, LacksWidth as Narrower, NoRule as Ruleless, TooNarrow as Tight, NoOfdm as Ofdm, NoIr as Ir, NoOutdoor as Outdoor, AboveLimit}
+use Rattle.chan_flags.specs.declared.verdict.Verdict.{Verdict}
+use Rattle.chan_flags.specs.declared.verdict.Verdict.TheVariants.{Fits, Refused}
+use Rattle.chan_flags.proofs.OneAnswer.{IsLimit-unique}
+use Rattle.reg_journal.specs.Facts.{Journal}
+use Rattle.reg_journal.specs.Present.{Iface}
+use Rattle.reg_journal.specs.Applicable.{applies}
+use Rattle.reg_journal.specs.Causes.{IsFree}
+use Rattle.reg_journal.specs.Permits.{asked_by, IsPowerOf, IsLengthOf, LacksChannel, LacksWidth, RulesForbid, PassesLimit}
+use Rattle.reg_journal.specs.declared.refusal.Refusal.{Refusal}
+use Rattle.reg_journal.specs.declared.refusal.Refusal.TheVariants.{RadioLacks, RadioLacksWidth, NoRule, Width as TooNarrow, NoOfdm, NoIr, NoOutdoor, Power}
+use Rattle.reg_journal.proofs.Granting.{free-before, free-where, free-at_lowest, whole_mhz, not_above}
+
+-- the refusal that a refusal by records is
+abbrev pub refusal_of : ChanRefusal → Refusal
+refusal_of (Lacking s) = RadioLacks s
+refusal_of (Narrower mhz) = RadioLacksWidth mhz
+refusal_of (Ruleless s) = NoRule s
+refusal_of (Tight s) = TooNarrow s
+refusal_of (Ofdm s) = NoOfdm s
+refusal_of (Ir s) = NoIr s
+refusal_of (Outdoor s) = NoOutdoor s
+refusal_of (AboveLimit limit) = Power limit
+
+-- the radio has the channel and its width
+pub record HasRadio (db : List Domain) (J : Journal) (x : Iface) (c : ChanDef) : Type 0 where
+  pub channels : IsFree (LacksChannel db J x c)
+  pub width : IsFree (LacksWidth J x c)
+
+-- What the verdict says of the causes: the radio lacks something; or it has all, and the rules or a fixed power speak against it; or
+-- nothing does.
+abbrev pub Says : List Domain → Journal → Iface → ChanDef → Verdict → Type 0
+Says db J x c (Refused (Lacking s)) = LacksChannel db J x c (RadioLacks s)
+Says db J x c (Refused (Narrower mhz)) = IsFree (LacksChannel db J x c) × LacksWidth J x c (RadioLacksWidth mhz)
+Says db J x c (Refused (AboveLimit limit)) = HasRadio db J x c × IsFree (RulesForbid db J x c) × PassesLimit db J x c (Power limit)
+Says db J x c (Refused r) = HasRadio db J x c × RulesForbid db J x c (refusal_of r)
+Says db J x c (Fits power length) =
+    HasRadio db J x c × IsFree (RulesForbid db J x c) × IsFree (PassesLimit db J x c) × IsPowerOf db J x c power × IsLengthOf db J x c length
+
+has_radio : (db : List Domain) (J : Journal) (x : Iface) (c : ChanDef) → HasWidth (asked_by J x c) → BarsNone (Bars (applies db J x.radio) (asked_by J x c) Missing) c → HasRadio db J x c
+has_radio db J x c wide none = record {
+  channels = free-at_lowest _ c _ none;
+  width = free-where _ _ (λ less. let whole = whole_mhz c.width in absurd (omega (arith, less, wide, whole)));
+}
+
+free_rules : (db : List Domain) (J : Journal) (x : Iface) (c : ChanDef)
+    → NoneBars (Bars (applies db J x.radio) (asked_by J x c)) c (Missing ∷ Unruled ∷ Narrow ∷ OfdmBarred ∷ IrBarred ∷ OutdoorBarred ∷ [])
+    → IsFree (RulesForbid db J x c)
+free_rules db J x c none =
+    free-before _ _ (free-at_lowest _ c _ none.1.0)
+    (free-before _ _ (free-at_lowest _ c _ none.1.1.0)
+    (free-before _ _ (free-at_lowest _ c _ none.1.1.1.0)
+    (free-before _ _ (free-at_lowest _ c _ none.1.1.1.1.0)
+    (free-at_lowest _ c _ none.1.1.1.1.1.0))))
+
+pub verdict_says : (db : List Domain) (J : Journal) (x : Iface) (c : ChanDef) (v : Verdict) → IsVerdict (applies db J x.radio) (asked_by J x c) v → Says db J x c v
+verdict_says db J x c (Refused (Lacking s)) is = (s, is, refl)
+verdict_says db J x c (Refused (Narrower mhz)) (none, less, same) =
+    let whole = whole_mhz c.width in
+    (free-at_lowest _ c _ none.0, (omega (arith, less, whole), ap RadioLacksWidth (omega (arith, same, whole))))
+verdict_says db J x c (Refused (Ruleless s)) (wide, none, first) = (has_radio db J x c wide none.0, inl (s, first, refl))
+verdict_says db J x c (Refused (Tight s)) (wide, none, first) =
+    (has_radio db J x c wide none.0, inr (free-at_lowest _ c _ none.1.0, inl (s, first, refl)))
+verdict_says db J x c (Refused (Ofdm s)) (wide, none, first) =
+    (has_radio db J x c wide none.0, inr (free-at_lowest _ c _ none.1.0, inr (free-at_lowest _ c _ none.1.1.0, inl (s, first, refl))))
+verdict_says db J x c (Refused (Ir s)) (wide, none, first) =
+    (has_radio db J x c wide none.0, inr (free-at_lowest _ c _ none.1.0, inr (free-at_lowest _ c _ none.1.1.0, inr (free-at_lowest _ c _ none.1.1.1.0, inl (s, first, refl)))))
+verdict_says db J x c (Refused (Outdoor s)) (wide, none, first) =
+    (has_radio db J x c wide none.0, inr (free-at_lowest _ c _ none.1.0, inr (free-at_lowest _ c _ none.1.1.0, inr (free-at_lowest _ c _ none.1.1.1.0, inr (free-at_lowest _ c _ none.1.1.1.1.0, (s, first, refl))))))
+verdict_says db J x c (Refused (AboveLimit limit)) (wide, none, is, above) =
+    (has_radio db J x c wide none.0, free_rules db J x c none, (limit, is, above, refl))
+verdict_says db J x c (Fits power length) is =
+    let none = is.none_bars in (
+      has_radio db J x c is.has_width none.0,
+      free_rules db J x c none,
+      (λ e cause. not_above x.setting is.limit is.within (subst (λ n. IsAbove x.setting n) (IsLimit-unique _ _ cause.0 is.limit cause.1 is.is_limit) cause.2)),
+      (is.limit, is.is_limit, is.power_is),
+      is.length_is,
+    )
