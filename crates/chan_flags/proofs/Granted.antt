@@ -47,7 +47,7 @@ least_width W40 = omega arith
 least_width W80 = omega arith
 least_width W160 = omega arith
 
-power_within : (setting : PowerSetting) (limit : ℕ) → IsWithin setting limit → power_of setting limit ≤ limit
+pub power_within : (setting : PowerSetting) (limit : ℕ) → IsWithin setting limit → power_of setting limit ≤ limit
 power_within Auto limit within = omega arith
 power_within (Limit power) limit within = omega arith
 power_within (Fixed power) limit within = within

@@ -31,6 +31,14 @@ impl IfSlot {
         Some(IfSlot { number: n })
     }
 
+    /// Its number.
+    pub fn get(self) -> u8
+        ensures number { result ≡ self }
+        ensures few { result ≤ 7 }
+    {
+        self.number
+    }
+
     /// Its place among the eight.
     pub(crate) fn place(self) -> usize
         ensures number { result ≡ self }

@@ -1,7 +1,7 @@
 //! Drivers.
 
 ghost use Rattle.std.specs.Prelude.{◌≡◌, ◌≤◌, List, ℕ, Bool, Option, Some, IsTrue, MatchResult};
-ghost use Rattle.reg_base.specs.Causes.{HasCause};
+ghost use Rattle.reg_base.specs.Causes.{HasCause, Rose};
 ghost use Rattle.radio_drv.specs.Air.{HasPlace, started, stopped, powered};
 ghost use Rattle.radio_drv.specs.declared.on_air.CheckTold.{CheckTold};
 ghost use Rattle.radio_drv.specs.declared.on_air.OnAir.{OnAir};
@@ -16,7 +16,7 @@ pub struct DriverFailed;
 
 /// The driver of one radio (`struct cfg80211_ops`). Its meaning is the list of what is on air, at most
 /// eight entries, each interface once; the check last told; and the count of its faults, which never
-/// falls and stops at `u64::MAX`. A steady driver counts none.
+/// falls and stops at `u64::MAX`. A steady driver's never rises.
 pub trait Driver: Drop {
     ghost on_air: { Self → List OnAir };
 
@@ -36,7 +36,7 @@ pub trait Driver: Drop {
         ensures told { told self.new ≡ told self.old }
         ensures cause { HasCause (count self.old) (count self.new) result }
         ensures steady { steady self.new ≡ steady self.old }
-        ensures never { IsTrue (steady self.old) → count self.new ≡ count self.old };
+        ensures never { IsTrue (steady self.old) → Rose (count self.old) (count self.new) → ⊥ };
 
     /// Takes the interface off the air, if it is on it (`stop_ap` and its like).
     fn stop(&mut self, iface: IfIndex)
@@ -44,7 +44,7 @@ pub trait Driver: Drop {
         ensures told { told self.new ≡ told self.old }
         ensures later { count self.old ≤ count self.new }
         ensures steady { steady self.new ≡ steady self.old }
-        ensures never { IsTrue (steady self.old) → count self.new ≡ count self.old };
+        ensures never { IsTrue (steady self.old) → Rose (count self.old) (count self.new) → ⊥ };
 
     /// Begins a check for radar (`start_radar_detection`), which is then the one last told. `DriverFailed`
     /// leaves the one before, and comes only where the count rose.
@@ -60,7 +60,7 @@ pub trait Driver: Drop {
             (λ _. told self.new ≡ told self.old) }
         ensures cause { HasCause (count self.old) (count self.new) result }
         ensures steady { steady self.new ≡ steady self.old }
-        ensures never { IsTrue (steady self.old) → count self.new ≡ count self.old };
+        ensures never { IsTrue (steady self.old) → Rose (count self.old) (count self.new) → ⊥ };
 
     /// Changes the power of the interface, in mBm, if it is on air (`set_tx_power`).
     fn set_power(&mut self, iface: IfIndex, power_mbm: u16)
@@ -68,7 +68,7 @@ pub trait Driver: Drop {
         ensures told { told self.new ≡ told self.old }
         ensures later { count self.old ≤ count self.new }
         ensures steady { steady self.new ≡ steady self.old }
-        ensures never { IsTrue (steady self.old) → count self.new ≡ count self.old };
+        ensures never { IsTrue (steady self.old) → Rose (count self.old) (count self.new) → ⊥ };
 
     /// How often a call failed.
     fn faults(&self) -> u64

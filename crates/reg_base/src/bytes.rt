@@ -49,6 +49,13 @@ impl Bytes {
         Ok(())
     }
 
+    /// Drops all bytes, and keeps their room.
+    pub fn clear(&mut self)
+        ensures { self.new ≡ [] }
+    {
+        self.items.clear();
+    }
+
     /// How many bytes there are.
     pub fn len(&self) -> usize
         ensures { result ≡ length self.now }

@@ -38,6 +38,16 @@ impl CodeList {
         }
     }
 
+    /// A list of the same codes.
+    pub fn same(&self) -> Self
+        ensures { result ≡ self.now }
+    {
+        CodeList {
+            codes: self.codes,
+            count: self.count,
+        }
+    }
+
     /// Appends a code where there is room.
     pub fn push(&mut self, code: Alpha2)
         requires { length self.old < 4 }

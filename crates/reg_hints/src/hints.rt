@@ -105,6 +105,16 @@ impl Hints {
         Ok(treatment)
     }
 
+    /// The same hints once more.
+    pub fn same(&self) -> Self
+        ensures { result ≡ self.now }
+    {
+        Hints {
+            last: self.last,
+            global: self.global.same(),
+        }
+    }
+
     /// How a user's hint is treated (`reg_process_hint_user`).
     fn treat_user(&self, alpha2: &Alpha2) -> Treatment
         ensures { result ≡ treatment self.now (Hint.User alpha2.now) }

@@ -1,21 +1,24 @@
--- Nothing bars an operation that is granted.
-use Rattle.std.proofs.Common.{◌≡◌, ◌*◌, ◌/◌, ℕ, List, refl, subst, inl, inr, arith}
+-- Nothing bars an operation that is granted, and nothing ends one that may go on.
+use Rattle.std.proofs.Common.{◌≡◌, ◌≤◌, ◌*◌, ◌/◌, ℕ, List, [], ◌∷◌, IsTrue, refl, subst, inl, inr, arith}
 use Rattle.rule_tables.specs.declared.domain.Domain.{Domain}
-use Rattle.chan_def.specs.Covered.{width_khz}
+use Rattle.chan_def.specs.Covered.{width_khz, IsCovered}
+use Rattle.chan_def.specs.Kinds.{initiates}
 use Rattle.chan_def.specs.declared.definition.ChanDef.{ChanDef}
 use Rattle.chan_def.specs.declared.width.Width.{Width}
 use Rattle.chan_def.specs.declared.width.Width.TheVariants.{Noht, W20, W40, W80, W160}
-use Rattle.chan_flags.specs.Verdicts.{BarsNone, IsAbove, IsWithin}
+use Rattle.chan_flags.specs.Verdicts.{Bars, BarsNone, HasWidth, IsAbove, IsWithin, NoneBars}
+use Rattle.chan_flags.specs.declared.asked.Obstacle.TheVariants.{Missing, Unruled, Narrow, OfdmBarred, IrBarred, OutdoorBarred}
 use Rattle.chan_flags.specs.declared.verdict.PowerSetting.{PowerSetting}
 use Rattle.chan_flags.specs.declared.verdict.PowerSetting.TheVariants.{Auto, Limit, Fixed}
 use Rattle.chan_flags.proofs.Granted.{verdict_from_granting}
 use Rattle.chan_flags.proofs.OneAnswer.{IsLimit-unique}
 use Rattle.reg_journal.specs.Facts.{Journal}
-use Rattle.reg_journal.specs.Present.{Iface}
+use Rattle.reg_journal.specs.Present.{Iface, abilities_of}
 use Rattle.reg_journal.specs.Applicable.{applies}
 use Rattle.reg_journal.specs.Causes.{IsFree, ◌before◌, Where, AtLowest}
-use Rattle.reg_journal.specs.Permits.{asked_by, IsPowerOf, BarsOperation}
-use Rattle.reg_journal.specs.Granted.{IsGranted}
+use Rattle.reg_journal.specs.Permits.{asked_by, width_mhz, IsBoundOn, IsLimitOf, IsPowerOf, LacksWidth, RulesForbid, PassesLimit, LacksRadarWidth, MetRadar, LacksCheck, EndsOperation, BarsOperation}
+use Rattle.reg_journal.specs.Radar.{IsQuiet, Stands}
+use Rattle.reg_journal.specs.Granted.{IsGranted, IsPermitted}
 use Rattle.reg_journal.specs.declared.refusal.Refusal.{Refusal}
 
 pub free-before : (one next : Refusal → Type 0) → IsFree one → IsFree next → IsFree (one before next)
@@ -41,25 +44,83 @@ not_above Auto limit within above = above
 not_above (Limit power) limit within above = above
 not_above (Fixed power) limit within above = omega (arith, within, above)
 
+-- ---- each cause by itself
+
+-- what holds of each subchannel that has to be checked, for an interface that sends first
+abbrev pub OnEachBound : List Domain → Journal → Iface → ChanDef → (ℕ → Type 0) → Type 0
+OnEachBound db J x c P = IsTrue (initiates x.kind) → (s : ℕ) → IsCovered c s → IsBoundOn db J x.radio s → P s
+
+pub free-lacks_width : (J : Journal) (x : Iface) (c : ChanDef) → HasWidth (asked_by J x c) → IsFree (LacksWidth J x c)
+free-lacks_width J x c has = free-where _ _ (λ less. let whole = whole_mhz c.width in absurd (omega (arith, less, has, whole)))
+
+pub free-rules_forbid : (db : List Domain) (J : Journal) (x : Iface) (c : ChanDef)
+    → NoneBars (Bars (applies db J x.radio) (asked_by J x c)) c (Unruled ∷ Narrow ∷ OfdmBarred ∷ IrBarred ∷ OutdoorBarred ∷ []) → IsFree (RulesForbid db J x c)
+free-rules_forbid db J x c none =
+    free-before _ _ (free-at_lowest _ c _ none.0)
+    (free-before _ _ (free-at_lowest _ c _ none.1.0)
+    (free-before _ _ (free-at_lowest _ c _ none.1.1.0)
+    (free-before _ _ (free-at_lowest _ c _ none.1.1.1.0)
+    (free-at_lowest _ c _ none.1.1.1.1.0))))
+
+pub free-passes_limit : (db : List Domain) (J : Journal) (x : Iface) (c : ChanDef) (limit : ℕ) → IsLimitOf db J x c limit → IsWithin x.setting limit
+    → IsFree (PassesLimit db J x c)
+free-passes_limit db J x c limit is within e cause =
+    not_above x.setting limit within (subst (λ n. IsAbove x.setting n) (IsLimit-unique _ _ cause.0 limit cause.1 is) cause.2)
+
+pub free-lacks_radar_width : (db : List Domain) (J : Journal) (x : Iface) (c : ChanDef)
+    → OnEachBound db J x c (λ s. width_mhz c ≤ (abilities_of J x.radio).radar_mhz) → IsFree (LacksRadarWidth db J x c)
+free-lacks_radar_width db J x c has =
+    free-where _ _ (λ lacks. let wide = has lacks.0 lacks.1.0 lacks.1.1 lacks.1.2 in let less = lacks.2 in absurd (omega (arith, wide, less)))
+
+pub free-met_radar : (db : List Domain) (J : Journal) (x : Iface) (c : ChanDef) → OnEachBound db J x c (IsQuiet J x.radio) → IsFree (MetRadar db J x c)
+free-met_radar db J x c quiet = free-at_lowest _ c _ (λ s covered met. met.2 (quiet met.0 s covered met.1))
+
+pub free-lacks_check : (db : List Domain) (J : Journal) (x : Iface) (c : ChanDef) → OnEachBound db J x c (λ s. (end : ℕ) × Stands db J x.radio s end)
+    → IsFree (LacksCheck db J x c)
+free-lacks_check db J x c stands =
+    free-at_lowest _ c _ (λ s covered lacks. let check = stands lacks.0 s covered lacks.1 in lacks.2 check.0 check.1)
+
+-- ---- an operation that may go on
+
+-- the radio has its channels and width, and no rule forbids it
+allowed : (db : List Domain) (J : Journal) (x : Iface) (c : ChanDef) (power : ℕ) → IsPermitted db J x c power
+    → HasWidth (asked_by J x c)
+    × NoneBars (Bars (applies db J x.radio) (asked_by J x c)) c (Missing ∷ Unruled ∷ Narrow ∷ OfdmBarred ∷ IrBarred ∷ OutdoorBarred ∷ [])
+allowed db J x c power may =
+    let verdict = verdict_from_granting (applies db J x.radio) (asked_by J x c) power may.fits.0 may.fits.1 in
+    (verdict.has_width, verdict.none_bars)
+
+-- what operations are stopped and refused by alike
+free_of_rules : (db : List Domain) (J : Journal) (x : Iface) (c : ChanDef) (power : ℕ) → IsPermitted db J x c power
+    → IsFree (RulesForbid db J x c before PassesLimit db J x c before LacksRadarWidth db J x c before MetRadar db J x c before LacksCheck db J x c)
+free_of_rules db J x c power may =
+    free-before _ _ (free-rules_forbid db J x c (allowed db J x c power may).1.1)
+    (free-before _ _ (free-passes_limit db J x c may.fits.1.limit may.fits.1.is_limit may.fits.1.within)
+    (free-before _ _ (free-lacks_radar_width db J x c may.radar_width)
+    (free-before _ _ (free-met_radar db J x c (λ sends s covered bound. (may.clear sends s covered bound).quiet))
+    (free-lacks_check db J x c (λ sends s covered bound. let clear = may.clear sends s covered bound in (clear.end, clear.stands))))))
+
+-- nothing ends it
+pub free_of_permitted : (db : List Domain) (J : Journal) (x : Iface) (c : ChanDef) (power : ℕ) → IsPermitted db J x c power → IsFree (EndsOperation db J x c)
+free_of_permitted db J x c power may =
+    let fits = allowed db J x c power may in
+    free-before _ _ (free-at_lowest _ c _ fits.1.0)
+    (free-before _ _ (free-lacks_width J x c fits.0)
+    (free_of_rules db J x c power may))
+
+-- and its power is the one that its setting gives
+pub power_of_permitted : (db : List Domain) (J : Journal) (x : Iface) (c : ChanDef) (power : ℕ) → IsPermitted db J x c power → IsPowerOf db J x c power
+power_of_permitted db J x c power may = let granting = may.fits.1 in (granting.limit, granting.is_limit, granting.power_is)
+
+-- ---- a start that is granted
+
 pub free_of_granted : (db : List Domain) (J : Journal) (x : Iface) (c : ChanDef) (power : ℕ) → IsGranted db J x c power → IsFree (BarsOperation db J x c)
 free_of_granted db J x c power is =
-    let allowed = verdict_from_granting (applies db J x.radio) (asked_by J x c) power is.fits.0 is.fits.1 in
-    let bars = allowed.none_bars in
-    free-before _ _ (free-at_lowest _ c _ bars.0)
-    (free-before _ _ (free-where _ _ (λ less. let has = allowed.has_width in let whole = whole_mhz c.width in absurd (omega (arith, less, has, whole))))
+    let fits = allowed db J x c power is.permitted in
+    free-before _ _ (free-at_lowest _ c _ fits.1.0)
+    (free-before _ _ (free-lacks_width J x c fits.0)
     (free-before _ _ (free-where _ _ (λ less. let few = is.contexts in absurd (omega (arith, less, few))))
-    (free-before _ _
-    (free-before _ _ (free-at_lowest _ c _ bars.1.0)
-    (free-before _ _ (free-at_lowest _ c _ bars.1.1.0)
-    (free-before _ _ (free-at_lowest _ c _ bars.1.1.1.0)
-    (free-before _ _ (free-at_lowest _ c _ bars.1.1.1.1.0)
-    (free-at_lowest _ c _ bars.1.1.1.1.1.0)))))
-    (free-before _ _
-    (λ e cause. not_above x.setting allowed.limit allowed.within (subst (λ n. IsAbove x.setting n) (IsLimit-unique _ _ cause.0 allowed.limit cause.1 allowed.is_limit) cause.2))
-    (free-before _ _ (free-where _ _ (λ lacks. let wide = is.radar_width lacks.0 lacks.1.0 lacks.1.1 lacks.1.2 in let less = lacks.2 in absurd (omega (arith, wide, less))))
-    (free-before _ _
-    (free-at_lowest _ c _ (λ s covered met. met.2 (is.clear met.0 s covered met.1).quiet))
-    (free-at_lowest _ c _ (λ s covered lacks. let clear = is.clear lacks.0 s covered lacks.1 in lacks.2 clear.end clear.stands))))))))
+    (free_of_rules db J x c power is.permitted)))
 
 pub power_of_granted : (db : List Domain) (J : Journal) (x : Iface) (c : ChanDef) (power : ℕ) → IsGranted db J x c power → IsPowerOf db J x c power
-power_of_granted db J x c power is = let granting = is.fits.1 in (granting.limit, granting.is_limit, granting.power_is)
+power_of_granted db J x c power is = power_of_permitted db J x c power is.permitted

@@ -2,5 +2,6 @@ pub mod OneCause
 pub mod OneRefusal
 pub mod OneReply
 pub mod Granting
+pub mod Settling
 pub mod Verdicts
 pub mod SameNames

@@ -1,14 +1,13 @@
 -- What a verdict of the domains says of the causes, in their order.
-use Rattle.std.proofs.Common.{List, [], ◌∷◌, refl, ap, subst, inl, inr, arith}
+use Rattle.std.proofs.Common.{List, refl, ap, inl, inr, arith}
 use Rattle.rule_tables.specs.declared.domain.Domain.{Domain}
 use Rattle.chan_def.specs.declared.definition.ChanDef.{ChanDef}
-use Rattle.chan_flags.specs.Verdicts.{Bars, BarsNone, NoneBars, HasWidth, IsAbove, IsVerdict}
-use Rattle.chan_flags.specs.declared.asked.Obstacle.TheVariants.{Missing, Unruled, Narrow, OfdmBarred, IrBarred, OutdoorBarred}
+use Rattle.chan_flags.specs.Verdicts.{Bars, BarsNone, HasWidth, IsVerdict}
+use Rattle.chan_flags.specs.declared.asked.Obstacle.TheVariants.{Missing}
 use Rattle.chan_flags.specs.declared.verdict.ChanRefusal.{ChanRefusal}
 use Rattle.chan_flags.specs.declared.verdict.ChanRefusal.TheVariants.{LacksChannel as Lacking, LacksWidth as Narrower, NoRule as Ruleless, TooNarrow as Tight, NoOfdm as Ofdm, NoIr as Ir, NoOutdoor as Outdoor, AboveLimit}
 use Rattle.chan_flags.specs.declared.verdict.Verdict.{Verdict}
 use Rattle.chan_flags.specs.declared.verdict.Verdict.TheVariants.{Fits, Refused}
-use Rattle.chan_flags.proofs.OneAnswer.{IsLimit-unique}
 use Rattle.reg_journal.specs.Facts.{Journal}
 use Rattle.reg_journal.specs.Present.{Iface}
 use Rattle.reg_journal.specs.Applicable.{applies}
@@ -16,7 +15,7 @@ use Rattle.reg_journal.specs.Causes.{IsFree}
 use Rattle.reg_journal.specs.Permits.{asked_by, IsPowerOf, IsLengthOf, LacksChannel, LacksWidth, RulesForbid, PassesLimit}
 use Rattle.reg_journal.specs.declared.refusal.Refusal.{Refusal}
 use Rattle.reg_journal.specs.declared.refusal.Refusal.TheVariants.{RadioLacks, RadioLacksWidth, NoRule, Width as TooNarrow, NoOfdm, NoIr, NoOutdoor, Power}
-use Rattle.reg_journal.proofs.Granting.{free-before, free-where, free-at_lowest, whole_mhz, not_above}
+use Rattle.reg_journal.proofs.Granting.{free-at_lowest, free-lacks_width, free-passes_limit, free-rules_forbid, whole_mhz}
 
 -- the refusal that a refusal by records is
 abbrev pub refusal_of : ChanRefusal → Refusal
@@ -47,18 +46,8 @@ Says db J x c (Fits power length) =
 has_radio : (db : List Domain) (J : Journal) (x : Iface) (c : ChanDef) → HasWidth (asked_by J x c) → BarsNone (Bars (applies db J x.radio) (asked_by J x c) Missing) c → HasRadio db J x c
 has_radio db J x c wide none = record {
   channels = free-at_lowest _ c _ none;
-  width = free-where _ _ (λ less. let whole = whole_mhz c.width in absurd (omega (arith, less, wide, whole)));
+  width = free-lacks_width J x c wide;
 }
-
-free_rules : (db : List Domain) (J : Journal) (x : Iface) (c : ChanDef)
-    → NoneBars (Bars (applies db J x.radio) (asked_by J x c)) c (Missing ∷ Unruled ∷ Narrow ∷ OfdmBarred ∷ IrBarred ∷ OutdoorBarred ∷ [])
-    → IsFree (RulesForbid db J x c)
-free_rules db J x c none =
-    free-before _ _ (free-at_lowest _ c _ none.1.0)
-    (free-before _ _ (free-at_lowest _ c _ none.1.1.0)
-    (free-before _ _ (free-at_lowest _ c _ none.1.1.1.0)
-    (free-before _ _ (free-at_lowest _ c _ none.1.1.1.1.0)
-    (free-at_lowest _ c _ none.1.1.1.1.1.0))))
 
 pub verdict_says : (db : List Domain) (J : Journal) (x : Iface) (c : ChanDef) (v : Verdict) → IsVerdict (applies db J x.radio) (asked_by J x c) v → Says db J x c v
 verdict_says db J x c (Refused (Lacking s)) is = (s, is, refl)
@@ -75,12 +64,12 @@ verdict_says db J x c (Refused (Ir s)) (wide, none, first) =
 verdict_says db J x c (Refused (Outdoor s)) (wide, none, first) =
     (has_radio db J x c wide none.0, inr (free-at_lowest _ c _ none.1.0, inr (free-at_lowest _ c _ none.1.1.0, inr (free-at_lowest _ c _ none.1.1.1.0, inr (free-at_lowest _ c _ none.1.1.1.1.0, (s, first, refl))))))
 verdict_says db J x c (Refused (AboveLimit limit)) (wide, none, is, above) =
-    (has_radio db J x c wide none.0, free_rules db J x c none, (limit, is, above, refl))
+    (has_radio db J x c wide none.0, free-rules_forbid db J x c none.1, (limit, is, above, refl))
 verdict_says db J x c (Fits power length) is =
     let none = is.none_bars in (
       has_radio db J x c is.has_width none.0,
-      free_rules db J x c none,
-      (λ e cause. not_above x.setting is.limit is.within (subst (λ n. IsAbove x.setting n) (IsLimit-unique _ _ cause.0 is.limit cause.1 is.is_limit) cause.2)),
+      free-rules_forbid db J x c none.1,
+      free-passes_limit db J x c is.limit is.is_limit is.within,
       (is.limit, is.is_limit, is.power_is),
       is.length_is,
     )

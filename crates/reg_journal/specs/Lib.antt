@@ -13,3 +13,4 @@ pub mod Replies
 pub mod OnAir
 pub mod Due
 pub mod Granted
+pub mod Settled

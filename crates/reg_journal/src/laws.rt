@@ -1,14 +1,16 @@
 //! Laws over all journals.
 
-ghost use Rattle.std.specs.Prelude.{◌≡◌, ℕ, List, Bool};
+ghost use Rattle.std.specs.Prelude.{◌≡◌, ℕ, List, [], Bool};
 ghost use Rattle.rule_tables.specs.declared.domain.Domain.{Domain};
 ghost use Rattle.chan_def.specs.declared.definition.ChanDef.{ChanDef};
 ghost use Rattle.reg_journal.specs.Causes.{IsFree};
 ghost use Rattle.reg_journal.specs.Facts.{Fact, Journal};
 ghost use Rattle.reg_journal.specs.Granted.{IsGranted};
 ghost use Rattle.reg_journal.specs.Permits.{BarsOperation, IsPowerOf};
-ghost use Rattle.reg_journal.specs.Present.{Iface};
+ghost use Rattle.reg_journal.specs.Present.{Iface, ifaces_of};
 ghost use Rattle.reg_journal.specs.Replies.{Replies};
+ghost use Rattle.reg_journal.specs.Settled.{AreSettled};
+ghost use Rattle.reg_journal.specs.Sweep.{AreSwept};
 ghost use Rattle.reg_journal.specs.declared.reply.Reply.{Reply};
 ghost use Rattle.reg_journal.specs.declared.request.Request.{Request};
 
@@ -24,4 +26,9 @@ pub fn granted_is_not_barred()
         → IsGranted db journal x c power → IsFree (BarsOperation db journal x c) }
     ensures power { (db : List Domain) (journal : Journal) (x : Iface) (c : ChanDef) (power : ℕ)
         → IsGranted db journal x c power → IsPowerOf db journal x c power }
+{}
+
+/// Where what each interface does may go on as it is, a sweep of all interfaces does nothing.
+pub fn what_may_go_on_is_not_swept()
+    ensures { (db : List Domain) (journal : Journal) → AreSettled db journal → AreSwept db journal (ifaces_of journal) [] }
 {}
