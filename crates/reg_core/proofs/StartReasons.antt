@@ -1,0 +1,153 @@
+-- Why an operation doesn't start or stop, in order.
+use Rattle.std.proofs.Common.{◌≡◌, ◌≢◌, ◌⊎◌, ℕ, Bool, true, false, List, Option, Some, None, IsSome, IsSomeAnd, refl, sym, ap, ◌∙◌, inl, inr}
+use Rattle.std.proofs.lemmas.Bool.{false≢true}
+use Rattle.std.proofs.lemmas.Option.{none-some}
+use Rattle.rule_tables.specs.declared.domain.Domain.{Domain}
+use Rattle.chan_def.specs.Covered.{IsValidDef}
+use Rattle.chan_def.specs.declared.definition.ChanDef.{ChanDef}
+use Rattle.chan_def.specs.declared.kind.Kind.{Kind}
+use Rattle.chan_def.specs.declared.kind.Kind.TheVariants.{Monitor}
+use Rattle.reg_journal.specs.Causes.{IsFree, ◌before◌, Where, AtLowest}
+use Rattle.reg_journal.specs.Facts.{Journal}
+use Rattle.reg_journal.specs.Permits.{BarsOperation, channel_in, channel_of}
+use Rattle.reg_journal.specs.Present.{Check, Iface, Operation, check_of, named, operation_of}
+use Rattle.reg_journal.specs.Refusals.{FailsDriver, InUseFor, InvalidChannel, StartCauses, StopCauses}
+use Rattle.reg_journal.specs.declared.refusal.Refusal.{Refusal}
+use Rattle.reg_journal.specs.declared.refusal.Refusal.TheVariants.{BadChannel, Busy, DriverFailed, NoInterface, NotRunning, WrongType}
+use Rattle.reg_journal.proofs.Granting.{free-before, free-where, free_of_granted}
+use Rattle.reg_core.specs.Starting.{HasStart}
+use Rattle.reg_core.specs.Stepping.{is_failure}
+use Rattle.reg_core.specs.declared.port.Port.{Port}
+
+-- ---- starts
+
+-- what speaks against the start of an interface that is there
+abbrev pub BarsStart : List Domain → Journal → Kind → ChanDef → Bool → Iface → Refusal → Type 0
+BarsStart db J kind c failed x =
+    Where (x.kind ≢ kind) WrongType before Where (InUseFor J x kind) Busy before InvalidChannel c before BarsOperation db J x c before FailsDriver failed
+
+pub start_unnamed : (db : List Domain) (J : Journal) (name : List ℕ) (kind : Kind) (c : ChanDef) (failed : Bool) → named J name ≡ None
+    → StartCauses db J name kind c failed (NoInterface name)
+start_unnamed db J name kind c failed none = inl (none, refl)
+
+pub start_barred : (db : List Domain) (J : Journal) (name : List ℕ) (kind : Kind) (c : ChanDef) (failed : Bool) (x : Iface) (e : Refusal) → named J name ≡ Some x
+    → BarsStart db J kind c failed x e → StartCauses db J name kind c failed e
+start_barred db J name kind c failed x e is cause = inr (free-where _ _ (λ none. absurd (cc (is, none))), rw is cause)
+
+pub start_of_wrong_kind : (db : List Domain) (J : Journal) (kind : Kind) (c : ChanDef) (failed : Bool) (x : Iface) → x.kind ≢ kind → BarsStart db J kind c failed x WrongType
+start_of_wrong_kind db J kind c failed x other = inl (other, refl)
+
+pub start_while_busy : (db : List Domain) (J : Journal) (kind : Kind) (c : ChanDef) (failed : Bool) (x : Iface) → x.kind ≡ kind → InUseFor J x kind → BarsStart db J kind c failed x Busy
+start_while_busy db J kind c failed x same used = inr (free-where _ _ (λ other. other same), inl (used, refl))
+
+-- ---- an interface that does nothing
+
+pub in_use_by_channel : (J : Journal) (x : Iface) (kind : Kind) (c : ChanDef) → kind ≢ Monitor → Some c ≡ channel_of J x → InUseFor J x kind
+in_use_by_channel J x kind c other on = by (operation_of J x.index) (check_of J x.index) on
+  where
+    by : (o : Option Operation) (k : Option Check) → Some c ≡ channel_in o k → IsSome k ⊎ (IsSome o × (kind ≢ Monitor))
+    by (Some o) k on = inr (refl, other)
+    by None (Some k) on = inl refl
+    by None None on = absurd (none-some c (sym on))
+
+pub rests_without_channel : (J : Journal) (x : Iface) → None ≡ channel_of J x → (operation_of J x.index ≡ None) × (check_of J x.index ≡ None)
+rests_without_channel J x off = by (operation_of J x.index) (check_of J x.index) off
+  where
+    by : (o : Option Operation) (k : Option Check) → None ≡ channel_in o k → (o ≡ None) × (k ≡ None)
+    by (Some o) k off = absurd (none-some o.chan off)
+    by None (Some k) off = absurd (none-some k.chan off)
+    by None None off = (refl, refl)
+
+not_in_use : (J : Journal) (x : Iface) (kind : Kind) → operation_of J x.index ≡ None → check_of J x.index ≡ None → InUseFor J x kind → ⊥
+not_in_use J x kind no_operation no_check (inl checks) = absurd (false≢true (rw no_check at checks))
+not_in_use J x kind no_operation no_check (inr operates) = absurd (false≢true (rw no_operation at operates.0))
+
+pub start_on_bad_channel : (db : List Domain) (J : Journal) (kind : Kind) (c : ChanDef) (failed : Bool) (x : Iface) → x.kind ≡ kind → operation_of J x.index ≡ None
+    → check_of J x.index ≡ None → (IsValidDef c → ⊥) → BarsStart db J kind c failed x BadChannel
+start_on_bad_channel db J kind c failed x same no_operation no_check invalid =
+    inr (free-where _ _ (λ other. other same), inr (free-where _ _ (not_in_use J x kind no_operation no_check), inl (invalid, refl)))
+
+pub start_where_barred : (db : List Domain) (J : Journal) (kind : Kind) (c : ChanDef) (failed : Bool) (x : Iface) (e : Refusal) → x.kind ≡ kind → operation_of J x.index ≡ None
+    → check_of J x.index ≡ None → IsValidDef c → BarsOperation db J x c e → BarsStart db J kind c failed x e
+start_where_barred db J kind c failed x e same no_operation no_check valid bars =
+    inr (free-where _ _ (λ other. other same), inr (free-where _ _ (not_in_use J x kind no_operation no_check), inr (free-where _ _ (λ invalid. invalid valid), inl bars)))
+
+-- ---- a start that is granted
+
+pub start_free : (db : List Domain) (J : Journal) (name : List ℕ) (kind : Kind) (c : ChanDef) (port : Port) (power : ℕ) → HasStart db J name kind c port power
+    → IsFree (StartCauses db J name kind c false)
+start_free db J name kind c port power has =
+    free-before _ _ (free-where _ _ (λ none. let is = has.is_named in absurd (cc (is, none))))
+    (λ e cause. free-before _ _ (free-where _ _ (λ other. other has.right_kind))
+    (free-before _ _ (free-where _ _ (not_in_use J has.iface kind has.no_operation has.no_check))
+    (free-before _ _ (free-where _ _ (λ invalid. invalid (has.granted).valid))
+    (free-before _ _ (free_of_granted db J has.iface c power has.granted)
+    (free-where _ _ (λ failed. absurd (false≢true failed)))))) e (rw has.is_named at cause))
+
+pub start_fails : (db : List Domain) (J : Journal) (name : List ℕ) (kind : Kind) (c : ChanDef) (port : Port) (power : ℕ) → HasStart db J name kind c port power
+    → StartCauses db J name kind c true DriverFailed
+start_fails db J name kind c port power has =
+    start_barred db J name kind c true has.iface DriverFailed has.is_named
+    (inr (
+      free-where _ _ (λ other. other has.right_kind),
+      inr (
+        free-where _ _ (not_in_use J has.iface kind has.no_operation has.no_check),
+        inr (free-where _ _ (λ invalid. invalid (has.granted).valid), inr (free_of_granted db J has.iface c power has.granted, (refl, refl))),
+      ),
+    ))
+
+-- ---- no refusal but the last tells of a driver
+
+lowest_is_no_failure : (bars : ℕ → Type 0) (c : ChanDef) (refusal : ℕ → Refusal) (e : Refusal) → ((s : ℕ) → is_failure (refusal s) ≡ false) → AtLowest bars c refusal e
+    → is_failure e ≡ false
+lowest_is_no_failure bars c refusal e none (s, first, same) = ap is_failure same ∙ none s
+
+bar_is_no_failure : (db : List Domain) (J : Journal) (x : Iface) (c : ChanDef) (e : Refusal) → BarsOperation db J x c e → is_failure e ≡ false
+bar_is_no_failure db J x c e (inl cause) = lowest_is_no_failure _ c _ e (λ s. refl) cause
+bar_is_no_failure db J x c e (inr (f1, inl cause)) = ap is_failure cause.1
+bar_is_no_failure db J x c e (inr (f1, inr (f2, inl cause))) = ap is_failure cause.1
+bar_is_no_failure db J x c e (inr (f1, inr (f2, inr (f3, inl (inl cause))))) = lowest_is_no_failure _ c _ e (λ s. refl) cause
+bar_is_no_failure db J x c e (inr (f1, inr (f2, inr (f3, inl (inr (g1, inl cause)))))) = lowest_is_no_failure _ c _ e (λ s. refl) cause
+bar_is_no_failure db J x c e (inr (f1, inr (f2, inr (f3, inl (inr (g1, inr (g2, inl cause))))))) = lowest_is_no_failure _ c _ e (λ s. refl) cause
+bar_is_no_failure db J x c e (inr (f1, inr (f2, inr (f3, inl (inr (g1, inr (g2, inr (g3, inl cause)))))))) = lowest_is_no_failure _ c _ e (λ s. refl) cause
+bar_is_no_failure db J x c e (inr (f1, inr (f2, inr (f3, inl (inr (g1, inr (g2, inr (g3, inr (g4, cause))))))))) = lowest_is_no_failure _ c _ e (λ s. refl) cause
+bar_is_no_failure db J x c e (inr (f1, inr (f2, inr (f3, inr (f4, inl cause))))) = ap is_failure cause.3
+bar_is_no_failure db J x c e (inr (f1, inr (f2, inr (f3, inr (f4, inr (f5, inl cause)))))) = ap is_failure cause.1
+bar_is_no_failure db J x c e (inr (f1, inr (f2, inr (f3, inr (f4, inr (f5, inr (f6, inl cause))))))) = lowest_is_no_failure _ c _ e (λ s. refl) cause
+bar_is_no_failure db J x c e (inr (f1, inr (f2, inr (f3, inr (f4, inr (f5, inr (f6, inr (f7, cause)))))))) = lowest_is_no_failure _ c _ e (λ s. refl) cause
+
+on_named_is_no_failure : (db : List Domain) (J : Journal) (kind : Kind) (c : ChanDef) (x : Iface) (e : Refusal) → BarsStart db J kind c false x e → is_failure e ≡ false
+on_named_is_no_failure db J kind c x e (inl cause) = ap is_failure cause.1
+on_named_is_no_failure db J kind c x e (inr (f1, inl cause)) = ap is_failure cause.1
+on_named_is_no_failure db J kind c x e (inr (f1, inr (f2, inl cause))) = ap is_failure cause.1
+on_named_is_no_failure db J kind c x e (inr (f1, inr (f2, inr (f3, inl cause)))) = bar_is_no_failure db J x c e cause
+on_named_is_no_failure db J kind c x e (inr (f1, inr (f2, inr (f3, inr (f4, cause))))) = absurd (false≢true cause.0)
+
+pub start_is_no_failure : (db : List Domain) (J : Journal) (name : List ℕ) (kind : Kind) (c : ChanDef) (e : Refusal) → StartCauses db J name kind c false e → is_failure e ≡ false
+start_is_no_failure db J name kind c e (inl cause) = ap is_failure cause.1
+start_is_no_failure db J name kind c e (inr (f1, cause)) = by (named J name) cause
+  where
+    by : (o : Option Iface) → IsSomeAnd o (λ x. BarsStart db J kind c false x e) → is_failure e ≡ false
+    by None cause = absurd cause
+    by (Some x) cause = on_named_is_no_failure db J kind c x e cause
+
+-- ---- stops
+
+pub stop_barred : (J : Journal) (name : List ℕ) (kind : Kind) (x : Iface) (e : Refusal) → named J name ≡ Some x
+    → (Where (x.kind ≢ kind) WrongType before Where (operation_of J x.index ≡ None) NotRunning) e → StopCauses J name kind e
+stop_barred J name kind x e is cause = inr (free-where _ _ (λ none. absurd (cc (is, none))), rw is cause)
+
+pub stop_free : (J : Journal) (name : List ℕ) (kind : Kind) (x : Iface) (o : Operation) → named J name ≡ Some x → x.kind ≡ kind → operation_of J x.index ≡ Some o
+    → IsFree (StopCauses J name kind)
+stop_free J name kind x o is same operates =
+    free-before _ _ (free-where _ _ (λ none. absurd (cc (is, none))))
+    (λ e cause. free-before _ _ (free-where _ _ (λ other. other same)) (free-where _ _ (λ none. absurd (cc (none, operates)))) e (rw is at cause))
+
+pub stop_is_no_failure : (J : Journal) (name : List ℕ) (kind : Kind) (e : Refusal) → StopCauses J name kind e → is_failure e ≡ false
+stop_is_no_failure J name kind e (inl cause) = ap is_failure cause.1
+stop_is_no_failure J name kind e (inr (f1, cause)) = by (named J name) cause
+  where
+    by : (o : Option Iface) → IsSomeAnd o (λ x. (Where (x.kind ≢ kind) WrongType before Where (operation_of J x.index ≡ None) NotRunning) e) → is_failure e ≡ false
+    by None cause = absurd cause
+    by (Some x) (inl cause) = ap is_failure cause.1
+    by (Some x) (inr (f2, cause)) = ap is_failure cause.1

@@ -1,0 +1,157 @@
+-- A fact that says nothing of a radio leaves it as it is kept.
+use Rattle.std.proofs.Common.{◌≡◌, ℕ, ◌<◌, ◌==◌, ◌||◌, Bool, true, false, List, ◌∷◌, length, get_or, map, Option, Some, None, unwrap_or, if◌then◌else◌, refl, sym, subst, ap, ◌∙◌, inl, inr, eq-eqb}
+use Rattle.std.proofs.Math.ListN.{set}
+use Rattle.std.proofs.lemmas.Bool.{cases_Bool, eqb-true}
+use Rattle.std.specs.Option.{option_map, option_to_list}
+use Rattle.std.proofs.lemmas.List.{get_or-set_other, get_or-set_same}
+use Rattle.freq_range.specs.declared.rule.Rule.{Rule}
+use Rattle.rule_tables.specs.FileFormat.{region_number}
+use Rattle.rule_tables.specs.declared.domain.Domain.{Domain}
+use Rattle.chan_flags.specs.Profiles.{Abilities}
+use Rattle.chan_flags.specs.Records.{AreRecords}
+use Rattle.rule_intersect.specs.Tables.{IsTableOf}
+use Rattle.dfs_states.specs.Calls.{Call, Radar, Begin, DropCheck, RegionChanged}
+use Rattle.dfs_states.specs.StandsFor.{StandsFor as BookStandsFor}
+use Rattle.reg_hints.specs.Table.{Own, Treated}
+use Rattle.rule_tables.specs.declared.code.Alpha2.{Alpha2}
+use Rattle.reg_journal.specs.Facts.{Fact, Journal, moment_is, radio_added, radio_removed, rules_are, hinted, radar_met, check_begun, check_dropped}
+use Rattle.reg_journal.specs.Applicable.{applies, custom_domains, driver_code_of, hints_of, is_same_region, is_self_managed, own_domain, region_of}
+use Rattle.reg_journal.specs.OnAir.{is_on}
+use Rattle.reg_journal.specs.Present.{custom_rules_of, is_used, no_abilities, profile_of}
+use Rattle.reg_core.specs.Calls.{calls_of, pushed}
+use Rattle.reg_core.specs.Kept.{KeepsRadio, KeepsRadios, KeepsSlot}
+use Rattle.reg_core.specs.Lists.{applies_by, region_by}
+use Rattle.reg_core.specs.Slots.{slot_of}
+use Rattle.reg_core.specs.declared.radio.Radio.{Radio}
+use Rattle.reg_core.specs.declared.radio.RadioSlot.{RadioSlot}
+use Rattle.reg_core.specs.declared.radio.RadioSlot.TheVariants.{Free, Removed, There}
+use Rattle.reg_core.proofs.NewRadios.{applies_by-same}
+
+-- the fact speaks neither of the radio nor of all radios
+abbrev pub SparesRadio : Journal → ℕ → Fact → Type 0
+SparesRadio J r (moment_is moment) = ⊥
+SparesRadio J r (hinted (Treated hint)) = ⊥
+SparesRadio J r (hinted (Own q a)) = (r == q) ≡ false
+SparesRadio J r (radio_added q profile) = (r == q) ≡ false
+SparesRadio J r (radio_removed q) = (r == q) ≡ false
+SparesRadio J r (rules_are q rules) = (r == q) ≡ false
+SparesRadio J r (radar_met q chan) = (r == q) ≡ false
+SparesRadio J r (check_begun i chan length) = is_on J i r ≡ false
+SparesRadio J r (check_dropped i) = is_on J i r ≡ false
+SparesRadio J r f = Unit {0}
+
+-- ---- what the journal says of the radio
+
+other_profile : (J : Journal) (r : ℕ) (profile : Option Abilities) (same : Bool) → same ≡ false → (if same then profile else profile_of J r) ≡ profile_of J r
+other_profile J r profile true spares = cc
+other_profile J r profile false spares = refl
+
+other_rules : (J : Journal) (r : ℕ) (rules : Option (List Rule)) (same : Bool) → same ≡ false → (if same then rules else custom_rules_of J r) ≡ custom_rules_of J r
+other_rules J r rules true spares = cc
+other_rules J r rules false spares = refl
+
+other_code : (J : Journal) (r : ℕ) (code : Option Alpha2) (same : Bool) → same ≡ false → (if same then code else driver_code_of J r) ≡ driver_code_of J r
+other_code J r code true spares = cc
+other_code J r code false spares = refl
+
+other_used : (J : Journal) (r : ℕ) (same : Bool) → same ≡ false → (same || is_used J r) ≡ is_used J r
+other_used J r true spares = cc
+other_used J r false spares = refl
+
+other_call : (calls : List Call) (call : Call) (comes : Bool) → comes ≡ false → pushed (if comes then Some call else None) calls ≡ calls
+other_call calls call true spares = cc
+other_call calls call false spares = refl
+
+same_call : (calls : List Call) (call : Call) (stays : Bool) → stays ≡ true → pushed (if stays then None else Some call) calls ≡ calls
+same_call calls call true stays = refl
+same_call calls call false stays = cc
+
+pub profile_of-spared : (J : Journal) (r : ℕ) (f : Fact) → SparesRadio J r f → profile_of (f ∷ J) r ≡ profile_of J r
+profile_of-spared J r (radio_added q profile) spares = other_profile J r (Some profile) (r == q) spares
+profile_of-spared J r (radio_removed q) spares = other_profile J r None (r == q) spares
+profile_of-spared J r f spares = refl
+
+pub is_used-spared : (J : Journal) (r : ℕ) (f : Fact) → SparesRadio J r f → is_used (f ∷ J) r ≡ is_used J r
+is_used-spared J r (radio_added q profile) spares = other_used J r (r == q) spares
+is_used-spared J r f spares = refl
+
+custom_rules_of-spared : (J : Journal) (r : ℕ) (f : Fact) → SparesRadio J r f → custom_rules_of (f ∷ J) r ≡ custom_rules_of J r
+custom_rules_of-spared J r (rules_are q rules) spares = other_rules J r (Some rules) (r == q) spares
+custom_rules_of-spared J r f spares = refl
+
+hints_of-spared : (J : Journal) (r : ℕ) (f : Fact) → SparesRadio J r f → hints_of (f ∷ J) ≡ hints_of J
+hints_of-spared J r (hinted (Treated hint)) spares = absurd spares
+hints_of-spared J r (hinted (Own q a)) spares = refl
+hints_of-spared J r f spares = refl
+
+driver_code_of-spared : (J : Journal) (r : ℕ) (f : Fact) → SparesRadio J r f → driver_code_of (f ∷ J) r ≡ driver_code_of J r
+driver_code_of-spared J r (hinted (Treated hint)) spares = absurd spares
+driver_code_of-spared J r (hinted (Own q a)) spares = other_code J r (Some a) (r == q) spares
+driver_code_of-spared J r f spares = refl
+
+custom_domains-spared : (J : Journal) (r : ℕ) (f : Fact) → SparesRadio J r f → custom_domains (f ∷ J) r ≡ custom_domains J r
+custom_domains-spared J r f spares = ap (λ o. option_to_list (option_map own_domain o)) (custom_rules_of-spared J r f spares)
+
+is_self_managed-spared : (J : Journal) (r : ℕ) (f : Fact) → SparesRadio J r f → is_self_managed (f ∷ J) r ≡ is_self_managed J r
+is_self_managed-spared J r f spares = ap (λ o. (unwrap_or o no_abilities).self_managed) (profile_of-spared J r f spares)
+
+pub applies-spared : (db : List Domain) (J : Journal) (r : ℕ) (f : Fact) → SparesRadio J r f → applies db (f ∷ J) r ≡ applies db J r
+applies-spared db J r f spares =
+    ap (λ hints. applies_by db hints (is_self_managed (f ∷ J) r) (custom_domains (f ∷ J) r) (driver_code_of (f ∷ J) r)) (hints_of-spared J r f spares)
+    ∙ applies_by-same db (hints_of J) _ _ _ _ _ _ (is_self_managed-spared J r f spares) (custom_domains-spared J r f spares) (driver_code_of-spared J r f spares)
+
+pub region_of-spared : (db : List Domain) (J : Journal) (r : ℕ) (f : Fact) → SparesRadio J r f → region_of db (f ∷ J) r ≡ region_of db J r
+region_of-spared db J r f spares =
+    ap (λ hints. region_by db hints (is_self_managed (f ∷ J) r) (driver_code_of (f ∷ J) r)) (hints_of-spared J r f spares)
+    ∙ ap (λ s. region_by db (hints_of J) s (driver_code_of (f ∷ J) r)) (is_self_managed-spared J r f spares)
+    ∙ ap (λ d. region_by db (hints_of J) (is_self_managed J r) d) (driver_code_of-spared J r f spares)
+
+region_call-spared : (db : List Domain) (J : Journal) (r : ℕ) (f : Fact) → SparesRadio J r f
+    → pushed (if is_same_region (region_of db (f ∷ J) r) (region_of db J r) then None else Some RegionChanged) (calls_of db J r) ≡ calls_of db J r
+region_call-spared db J r f spares =
+    same_call (calls_of db J r) RegionChanged (is_same_region (region_of db (f ∷ J) r) (region_of db J r))
+    (eq-eqb _ _ (ap region_number (region_of-spared db J r f spares)))
+
+pub calls_of-spared : (db : List Domain) (J : Journal) (r : ℕ) (f : Fact) → SparesRadio J r f → calls_of db (f ∷ J) r ≡ calls_of db J r
+calls_of-spared db J r (moment_is moment) spares = absurd spares
+calls_of-spared db J r (hinted hint) spares = region_call-spared db J r (hinted hint) spares
+calls_of-spared db J r (radio_added q profile) spares = region_call-spared db J r (radio_added q profile) spares
+calls_of-spared db J r (radio_removed q) spares = region_call-spared db J r (radio_removed q) spares
+calls_of-spared db J r (radar_met q chan) spares = other_call (calls_of db J r) (Radar chan) (r == q) spares
+calls_of-spared db J r (check_begun i chan length) spares = other_call (calls_of db J r) (Begin (slot_of J i) chan length) (is_on J i r) spares
+calls_of-spared db J r (check_dropped i) spares = other_call (calls_of db J r) (DropCheck (slot_of J i)) (is_on J i r) spares
+calls_of-spared db J r f spares = refl
+
+-- ---- what is kept
+
+pub KeepsRadio-spared : (db : List Domain) (J : Journal) (r : ℕ) (f : Fact) (radio : Radio) → SparesRadio J r f → KeepsRadio db J r radio → KeepsRadio db (f ∷ J) r radio
+KeepsRadio-spared db J r f radio spares kept = record {
+  profile = profile_of-spared J r f spares ∙ kept.profile;
+  is_profile = kept.is_profile;
+  custom = custom_domains-spared J r f spares ∙ kept.custom;
+  driver = driver_code_of-spared J r f spares ∙ kept.driver;
+  table = subst (λ ds. IsTableOf ds radio.table) (sym (applies-spared db J r f spares)) kept.table;
+  records = subst (λ ds. AreRecords ds radio.chans.chans) (sym (applies-spared db J r f spares)) kept.records;
+  book = subst (λ calls. BookStandsFor radio.book (map (λ c. c.khz) radio.chans.chans) calls) (sym (calls_of-spared db J r f spares)) kept.book;
+}
+
+pub KeepsSlot-spared : (db : List Domain) (J : Journal) (r : ℕ) (f : Fact) (slot : RadioSlot) → SparesRadio J r f → KeepsSlot db J r slot → KeepsSlot db (f ∷ J) r slot
+KeepsSlot-spared db J r f Free spares kept = is_used-spared J r f spares ∙ kept
+KeepsSlot-spared db J r f Removed spares kept = (is_used-spared J r f spares ∙ kept.0, profile_of-spared J r f spares ∙ kept.1)
+KeepsSlot-spared db J r f (There radio) spares kept = (is_used-spared J r f spares ∙ kept.0, KeepsRadio-spared db J r f radio spares kept.1)
+
+-- a fact that spares each radio
+pub KeepsRadios-spared : (db : List Domain) (J : Journal) (f : Fact) (slots : List RadioSlot) → ((r : ℕ) → SparesRadio J r f) → KeepsRadios db J slots → KeepsRadios db (f ∷ J) slots
+KeepsRadios-spared db J f slots spares kept = λ r below. KeepsSlot-spared db J r f (get_or slots r Free) (spares r) (kept r below)
+
+-- a fact that spares each radio but one, whose place is written
+pub KeepsRadios-at : (db : List Domain) (J : Journal) (f : Fact) (slots : List RadioSlot) (q : ℕ) (slot : RadioSlot) → q < length slots
+    → ((r : ℕ) → (r == q) ≡ false → SparesRadio J r f) → KeepsSlot db (f ∷ J) q slot → KeepsRadios db J slots → KeepsRadios db (f ∷ J) (set slots q slot)
+KeepsRadios-at db J f slots q slot within spares is kept = λ r below. elim (cases_Bool (r == q)) [
+  | inl same ↦
+      subst (λ n. KeepsSlot db (f ∷ J) n (get_or (set slots q slot) n Free)) (sym (eqb-true r q same))
+      (subst (KeepsSlot db (f ∷ J) q) (sym (get_or-set_same slots q slot Free within)) is)
+  | inr other ↦
+      subst (KeepsSlot db (f ∷ J) r) (sym (get_or-set_other slots q r slot Free (λ same. let test : (r == q) ≡ true = eq-eqb r q same in absurd cc)))
+      (KeepsSlot-spared db J r f (get_or slots r Free) (spares r other) (kept r below))
+]

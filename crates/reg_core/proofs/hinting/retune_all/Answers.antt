@@ -1,0 +1,57 @@
+use Rattle.std.proofs.Common.{rules, ◌≡◌, ◌∷◌, [], ℕ, length, get_or, arith, sym, subst, ap, ◌∙◌}
+use Rattle.std.proofs.Math.ListN.{set}
+use Rattle.std.proofs.lemmas.List.{length-append}
+use Rattle.reg_core.specs.Hinting.{IsNewTable}
+use Rattle.reg_core.proofs.NewTables.{table_at}
+use Rattle.reg_core.specs.declared.radio.RadioSlot.{RadioSlot}
+use Rattle.reg_core.specs.declared.radio.RadioSlot.TheVariants.{Free}
+use Rattle.reg_core.proofs.KeptOn.{Retunes}
+use Rattle.reg_core.proofs.Places.{AreDoneFrom, one_before_done}
+use Rattle.reg_core.proofs.Taken.{IsPopped, popped}
+use Rattle.reg_core.proofs.hinting.retune_all.Goals as goal
+
+last_table : (c : goal.After-index-radios-number) → IsPopped c.args.tables.items c.pop.new.self.items c.in-Some.table
+last_table c =
+    popped c.args.tables.items c.places.tables.items c.pop.new.self.items c.in-Some.table c.places.invariant.tables c.places.invariant.few c.in-Some.ensures.items
+
+same_number : (c : goal.After-index-radios-number) → c.len-number.result ≡ length c.pop.new.self.items
+same_number c = search rules
+
+pub retune_slot-requires : goal.retune_slot-requires
+retune_slot-requires c =
+    let db = c.args.domains.now in
+    let after = c.args.after.now in
+    let hint = c.args.hint.now in
+    let rest = c.pop.new.self.items in
+    let slot = c.index-radios-number.result in
+    let len = ap length c.in-Some.ensures.items ∙ length-append rest (c.in-Some.table ∷ []) in
+    record {
+      table = subst (λ n. IsNewTable db after hint n (get_or c.places.radios n slot) c.in-Some.table) (sym (same_number c))
+          (table_at db after hint c.args.radios.now c.places.radios c.args.tables.items rest c.in-Some.table slot c.requires.tables (last_table c) c.places.auto.radios
+          (c.places.invariant.done.rest (length rest) (omega (arith, len))));
+    }
+
+pub places-preserved : goal.places-preserved
+places-preserved c =
+    let db = c.args.domains.now in
+    let before = c.args.before.now in
+    let after = c.args.after.now in
+    let hint = c.args.hint.now in
+    let P : ℕ → RadioSlot → RadioSlot → Type 0 = Retunes db before after hint in
+    let rest = c.pop.new.self.items in
+    let n = length rest in
+    let slot = c.index-radios-number.result in
+    let last = last_table c.before in
+    let within = last.within in
+    let all = c.requires.tables.all in
+    let long = c.places.auto.radios in
+    let len = ap length c.in-Some.ensures.items ∙ length-append rest (c.in-Some.table ∷ []) in
+    let done = subst (λ k. AreDoneFrom P Free c.args.radios.now c.places.radios k) len c.places.invariant.done in
+    let step : P n (get_or c.places.radios n slot) c.retune_slot.new.slot =
+    subst (λ k. P k (get_or c.places.radios k slot) c.retune_slot.new.slot) (same_number c.before) c.retune_slot.ensures.kept in
+    record {
+      done = subst (λ k. AreDoneFrom P Free c.args.radios.now (set c.places.radios k c.retune_slot.new.slot) n) (sym (same_number c.before))
+          (one_before_done P Free c.args.radios.now c.places.radios n slot c.retune_slot.new.slot done (omega (arith, within, all, long)) step);
+      tables = last.front;
+      few = omega (arith, within);
+    }

@@ -1,0 +1,23 @@
+use Rattle.std.proofs.Common.{map, sym, subst, ◌∙◌}
+use Rattle.dfs_states.specs.StandsFor.{StandsFor as BookStandsFor}
+use Rattle.reg_core.proofs.KeptOn.{calls_of-moved, calls_of-unmoved, retuned}
+use Rattle.reg_core.proofs.radio.Radio.retune.Goals as goal
+
+pub returns-then-region_changed : goal.returns-then-region_changed
+returns-then-region_changed c = record {
+  kept = λ db J r hint kept driver table changed.
+      let calls = calls_of-moved db J r hint (sym c.if-region_changed.true ∙ changed) in
+      retuned db J r hint c.args.self.now c.args.driver c.args.table c.refresh.new.self c.region_changed.new.self kept driver table c.refresh.ensures.profile
+      c.refresh.ensures.channels c.refresh.ensures.law
+      (subst (λ calls. BookStandsFor c.region_changed.new.self (map (λ c. c.khz) c.args.self.now.chans.chans) calls) (sym calls)
+      (c.region_changed.ensures.stands_for _ _ kept.book));
+}
+
+pub returns-else-region_changed : goal.returns-else-region_changed
+returns-else-region_changed c = record {
+  kept = λ db J r hint kept driver table changed.
+      let calls = calls_of-unmoved db J r hint (sym c.if-region_changed.false ∙ changed) in
+      retuned db J r hint c.args.self.now c.args.driver c.args.table c.refresh.new.self c.args.self.now.book kept driver table c.refresh.ensures.profile
+      c.refresh.ensures.channels c.refresh.ensures.law
+      (subst (λ calls. BookStandsFor c.args.self.now.book (map (λ c. c.khz) c.args.self.now.chans.chans) calls) (sym calls) kept.book);
+}

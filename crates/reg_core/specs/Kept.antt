@@ -1,0 +1,85 @@
+-- What the core keeps of a journal: of each interface, of each radio, and in all.
+use Rattle.std.specs.Prelude.{◌≡◌, ℕ, ◌<◌, true, false, List, map, Option, Some, None, slice_index_or}
+use Rattle.std.specs.Option.{option_map, option_to_list}
+use Rattle.rule_tables.specs.declared.domain.Domain.{Domain}
+use Rattle.rule_intersect.specs.Tables.{IsTableOf}
+use Rattle.chan_flags.specs.Profiles.{IsProfile}
+use Rattle.chan_flags.specs.Records.{AreRecords}
+use Rattle.dfs_states.specs.StandsFor.{StandsFor as BookStandsFor}
+use Rattle.reg_journal.specs.Applicable.{applies, custom_domains, driver_code_of, global_domains, hints_of}
+use Rattle.reg_journal.specs.Due.{AreDue}
+use Rattle.reg_journal.specs.Facts.{Journal}
+use Rattle.reg_journal.specs.Present.{Iface, Operation, ifaces_of, is_indoor, is_used, made_of, now_of, operation_of, profile_of}
+use Rattle.reg_journal.specs.Settled.{AreSettled}
+use Rattle.reg_core.specs.Calls.{calls_of}
+use Rattle.reg_core.specs.Slots.{slot_of}
+use Rattle.reg_core.specs.declared.core_parts.Core.{Core}
+use Rattle.reg_core.specs.declared.port.Port.{Port}
+use Rattle.reg_core.specs.declared.port.Running.{Running}
+use Rattle.reg_core.specs.declared.radio.Radio.{Radio}
+use Rattle.reg_core.specs.declared.radio.RadioSlot.{RadioSlot}
+use Rattle.reg_core.specs.declared.radio.RadioSlot.TheVariants.{Free, Removed, There}
+
+-- ---- interfaces
+
+abbrev pub kept_operation : Operation → Running
+kept_operation o = record { chan = o.chan; power_mbm = o.power }
+
+-- what is kept of an interface: with its slot and its operation
+abbrev pub kept : Journal → Iface → Port
+kept J x = record {
+  index = x.index;
+  name = x.name;
+  radio = x.radio;
+  slot = slot_of J x.index;
+  kind = x.kind;
+  setting = x.setting;
+  operation = option_map kept_operation (operation_of J x.index);
+}
+
+-- the interfaces that are there, in order of creation
+abbrev pub ports_of : Journal → List Port
+ports_of J = map (kept J) (ifaces_of J)
+
+-- ---- radios
+
+-- What is kept of a radio that is there: the rows of the domains that apply to it, the records of its channels, its own rules, its
+-- driver's code, and a book of its checks and radar.
+pub record KeepsRadio (db : List Domain) (J : Journal) (r : ℕ) (radio : Radio) : Type 0 where
+  pub profile : profile_of J r ≡ Some radio.chans.profile
+  pub is_profile : IsProfile radio.chans.profile
+  pub custom : custom_domains J r ≡ option_to_list radio.custom
+  pub driver : driver_code_of J r ≡ radio.driver
+  pub table : IsTableOf (applies db J r) radio.table
+  pub records : AreRecords (applies db J r) radio.chans.chans
+  pub book : BookStandsFor radio.book (map (λ c. c.khz) radio.chans.chans) (calls_of db J r)
+
+abbrev pub KeepsSlot : List Domain → Journal → ℕ → RadioSlot → Type 0
+KeepsSlot db J r Free = is_used J r ≡ false
+KeepsSlot db J r Removed = (is_used J r ≡ true) × (profile_of J r ≡ None)
+KeepsSlot db J r (There radio) = (is_used J r ≡ true) × KeepsRadio db J r radio
+
+-- the radio of a place, where it is there
+abbrev pub radio_in : RadioSlot → Option Radio
+radio_in Free = None
+radio_in Removed = None
+radio_in (There radio) = Some radio
+
+abbrev pub KeepsRadios : List Domain → Journal → List RadioSlot → Type 0
+KeepsRadios db J slots = (r : ℕ) → r < 8 → KeepsSlot db J r (slice_index_or slots r Free)
+
+-- ---- the core
+
+-- The core of the database stands for the journal: each fact of it came where it might, what the interfaces do may go on, and
+-- each part of the core is what the journal says.
+pub record StandsFor (db : List Domain) (core : Core) (J : Journal) : Type 0 where
+  pub due : AreDue db J
+  pub settled : AreSettled db J
+  pub domains : core.domains ≡ db
+  pub clock : core.clock ≡ now_of J
+  pub indoor : core.indoor ≡ is_indoor J
+  pub hints : core.hints ≡ hints_of J
+  pub made : core.made ≡ made_of J
+  pub global : IsTableOf (global_domains db J) core.global
+  pub radios : KeepsRadios db J core.radios
+  pub ports : core.ports ≡ ports_of J

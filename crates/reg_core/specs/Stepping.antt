@@ -1,0 +1,112 @@
+-- What a step of the core is.
+use Rattle.std.specs.Prelude.{◌≡◌, ℕ, ◌⊎◌, Bool, true, false, List, [], Option, Contains, IsSomeAnd, IsTrue}
+use Rattle.std.specs.Option.{option_map}
+use Rattle.rule_tables.specs.declared.domain.Domain.{Domain}
+use Rattle.chan_def.specs.declared.kind.Kind.TheVariants.{Ap}
+use Rattle.radio_drv.specs.Seen.{Seen}
+use Rattle.reg_hints.specs.Table.{Treated, treatment}
+use Rattle.reg_hints.specs.declared.hint.Hint.TheVariants.{User}
+use Rattle.reg_hints.specs.declared.hint.Treatment.{Treatment}
+use Rattle.reg_hints.specs.declared.hint.Treatment.TheVariants.{Replace, Intersect}
+use Rattle.reg_journal.specs.Applicable.{hints_of}
+use Rattle.reg_journal.specs.Causes.{IsFree}
+use Rattle.reg_journal.specs.Facts.{Journal}
+use Rattle.reg_journal.specs.Granted.{IsGranted}
+use Rattle.reg_journal.specs.Present.{Iface, ifaces_of, named}
+use Rattle.reg_journal.specs.Refusals.{HintCauses, IsInUse}
+use Rattle.reg_journal.specs.Replies.{Steps}
+use Rattle.reg_journal.specs.declared.refusal.Refusal.{Refusal}
+use Rattle.reg_journal.specs.declared.refusal.Refusal.TheVariants.{DriverFailed, NotBuilt}
+use Rattle.reg_journal.specs.declared.reply.Answer.{Answer}
+use Rattle.reg_journal.specs.declared.reply.Answer.TheVariants.{Refused, Started}
+use Rattle.reg_journal.specs.declared.reply.Reply.{Reply}
+use Rattle.reg_journal.specs.declared.reply.Reply.TheVariants.{Plain}
+use Rattle.reg_journal.specs.declared.request.Request.{Request}
+use Rattle.reg_journal.specs.declared.request.Request.TheVariants.{At, RadioAdd, UserHint, IfaceAdd, Start, Stop}
+use Rattle.reg_core.specs.Heard.{AllGoOn, AreDriven, Follows, HasFailed, driver_at}
+use Rattle.reg_core.specs.Kept.{StandsFor}
+use Rattle.reg_core.specs.declared.core_parts.Core.{Core}
+
+abbrev pub is_failure : Refusal → Bool
+is_failure DriverFailed = true
+is_failure e = false
+
+abbrev pub is_failed_answer : Answer → Bool
+is_failed_answer (Refused e) = is_failure e
+is_failed_answer answer = false
+
+-- the driver failed, by the reply
+abbrev pub is_failed : Reply → Bool
+is_failed (Plain answer effects) = is_failed_answer answer
+is_failed reply = false
+
+abbrev pub is_refusal : Reply → Bool
+is_refusal (Plain (Refused e) effects) = true
+is_refusal reply = false
+
+-- the core stays, and no driver was told anything; where one failed, all have on air what they had
+pub record ChangesNothing (old new : Core) (heard heard' : List (Option Seen)) (failed : Bool) : Type 0 where
+  pub core : new ≡ old
+  pub untold : failed ≡ false → heard' ≡ heard
+  pub air : (r : ℕ) → option_map (λ s. s.air) (driver_at heard' r) ≡ option_map (λ s. s.air) (driver_at heard r)
+
+-- a start that is answered with a power was granted it
+abbrev pub IsStartGranted : List Domain → Journal → Request → Reply → Type 0
+IsStartGranted db J (Start name kind c) (Plain (Started power) effects) = IsSomeAnd (named J name) (λ x. IsGranted db J x c power)
+IsStartGranted db J q reply = Unit {0}
+
+-- The reply is the journal's, and the core stands for the next one. The drivers follow it where they did, and have on air what runs
+-- where they had. Where a driver failed, it is that of the request's radio, isn't steady, and its count rose in this step. A refusal
+-- changes nothing else.
+pub record OneStep (db : List Domain) (J : Journal) (q : Request) (old new : Core) (heard heard' : List (Option Seen)) (reply : Reply) : Type 0 where
+  pub next : Journal
+  pub steps : Steps db J q (is_failed reply) reply next
+  pub stands : StandsFor db new next
+  pub follows : Follows J heard → Follows next heard'
+  pub driven : AreDriven J heard → AreDriven next heard'
+  pub cause : IsTrue (is_failed reply) → HasFailed J q heard heard'
+  pub drivers : AllGoOn J q reply heard heard'
+  pub refused : IsTrue (is_refusal reply) → ChangesNothing old new heard heard' (is_failed reply)
+  pub granted : IsStartGranted db J q reply
+
+-- ---- what is built
+
+-- some interface has an operation or a running check
+abbrev pub SomeRuns : Journal → Type 0
+SomeRuns J = (x : Iface) × Contains (ifaces_of J) x × IsInUse J x
+
+-- a hint that is treated so changes the global list
+abbrev pub changes_list : Treatment → Bool
+changes_list Replace = true
+changes_list Intersect = true
+changes_list treatment = false
+
+-- The request is one of those that are answered by now. A hint that would be taken, and would change the global list, isn't where
+-- something runs that it might end.
+abbrev pub IsBuilt : List Domain → Journal → Request → Type 0
+IsBuilt db J (At moment) = Unit {0}
+IsBuilt db J (RadioAdd r profile) = Unit {0}
+IsBuilt db J (UserHint a) =
+    IsFree (HintCauses db J a (Treated (User a))) → IsTrue (changes_list (treatment (hints_of J) (User a))) → SomeRuns J → ⊥
+IsBuilt db J (IfaceAdd r name kind) = Unit {0}
+IsBuilt db J (Start name Ap c) = Unit {0}
+IsBuilt db J (Stop name Ap) = Unit {0}
+IsBuilt db J q = ⊥
+
+-- the request isn't answered yet: nothing changes
+pub record IsPutOff (old new : Core) (heard heard' : List (Option Seen)) (reply : Reply) : Type 0 where
+  pub reply_is : reply ≡ Plain (Refused NotBuilt) []
+  pub core : new ≡ old
+  pub drivers : heard' ≡ heard
+
+-- what a step is over each journal that the core stands for
+abbrev pub IsStep : List Domain → Journal → Request → Core → Core → List (Option Seen) → List (Option Seen) → Reply → Type 0
+IsStep db J q old new heard heard' reply =
+    (IsBuilt db J q × OneStep db J q old new heard heard' reply) ⊎ ((IsBuilt db J q → ⊥) × IsPutOff old new heard heard' reply)
+
+-- the core stands for a journal whose running operations are on air
+pub record IsReady (core : Core) (heard : List (Option Seen)) : Type 0 where
+  pub db : List Domain
+  pub journal : Journal
+  pub stands : StandsFor db core journal
+  pub driven : AreDriven journal heard

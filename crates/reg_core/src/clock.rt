@@ -1,0 +1,48 @@
+//! Moments that pass.
+
+ghost use Rattle.std.specs.Prelude.{◌≡◌, ◌≤◌, ◌^◌, List, MatchOption, MatchResult};
+ghost use Rattle.rule_tables.specs.declared.domain.Domain.{Domain};
+ghost use Rattle.reg_journal.specs.Causes.{IsFree};
+ghost use Rattle.reg_journal.specs.Facts.{Journal, moment_is};
+ghost use Rattle.reg_journal.specs.Present.{now_of};
+ghost use Rattle.reg_journal.specs.Refusals.{MomentCauses};
+ghost use Rattle.reg_core.specs.Deciding.{Declines, Takes};
+ghost use Rattle.reg_core.specs.Kept.{StandsFor};
+
+use crate::core_parts::Core;
+use crate::declined::Declined;
+use crate::radios::advance_all;
+use reg_journal::Refusal;
+
+/// The last moment, in ms.
+const LAST_MOMENT: u64 = 1_000_000_000_000_000;
+
+/// Why it can't be `now`, in ms, where it is `clock`.
+fn moment_refusal(clock: u64, now: u64) -> Option<Refusal>
+    ensures first { (J : Journal) → clock ≡ now_of J → MatchOption result (IsFree (MomentCauses J now)) (MomentCauses J now) }
+    ensures due { MatchOption result ((clock ≤ now) × (now ≤ 10 ^ 15)) (λ _. Unit {0}) }
+{
+    if now > LAST_MOMENT {
+        return Some(Refusal::MomentTooLarge(now));
+    }
+    if now < clock {
+        return Some(Refusal::MomentBack(clock));
+    }
+    None
+}
+
+impl Core {
+    /// It is `now`, in ms.
+    pub(crate) fn at(&mut self, now: u64) -> Result<(), Declined>
+        ensures taken { (db : List Domain) (J : Journal) → StandsFor db self.old J → MatchResult result
+            (λ _. Takes db J (MomentCauses J now) (moment_is now) self.new)
+            (Declines (MomentCauses J now) ⊥ self.old self.new) }
+    {
+        if let Some(refusal) = moment_refusal(self.clock, now) {
+            return Err(Declined::Refused(refusal));
+        }
+        advance_all(&mut self.radios, now);
+        self.clock = now;
+        Ok(())
+    }
+}

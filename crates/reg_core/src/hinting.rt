@@ -1,0 +1,130 @@
+//! What a hint that the table of hints treats gives to the radios: first the new tables, which may be
+//! refused, and then, where all are there, the change.
+
+ghost use Rattle.std.specs.Prelude.{◌≡◌, ◌∷◌, ℕ, IfErr, IfOk, MatchResult, length};
+ghost use Rattle.reg_hints.specs.Table.{Treated};
+ghost use Rattle.reg_journal.specs.Applicable.{hints_of};
+ghost use Rattle.reg_journal.specs.Facts.{Journal, hinted};
+ghost use Rattle.reg_core.specs.Hinting.{AreNewTables, IsNewTable, IsNewTableFault, IsRowsFault, driver_after, lists_after};
+ghost use Rattle.reg_core.specs.Kept.{KeepsRadios, KeepsSlot};
+
+use crate::domains::Domains;
+use crate::radio::RadioSlot;
+use crate::regions::{is_moved, region_of};
+use crate::tables::radio_table;
+use reg_hints::{Hint, Hints};
+use rule_intersect::{ResolveFault, Table};
+use rule_tables::Alpha2;
+use std::alloc::Global;
+
+/// The code of the last hint of a radio's driver, where it was this one before.
+fn driver_after(hint: &Hint, number: usize, driver: Option<Alpha2>) -> Option<Alpha2>
+    ensures { result ≡ driver_after hint.now number driver }
+{
+    match hint {
+        Hint::Driver { radio, alpha2 } if number == radio.get() as usize => Some(*alpha2),
+        Hint::User(_) | Hint::Driver { .. } | Hint::Element { .. } => driver,
+    }
+}
+
+/// The new table of one place.
+fn new_table(
+    alloc: Global,
+    domains: &Domains,
+    after: &Hints,
+    hint: &Hint,
+    number: usize,
+    slot: &RadioSlot,
+) -> Result<Option<Table>, ResolveFault>
+    ensures { MatchResult result (IsNewTable domains.now after.now hint.now number slot.now) (IsNewTableFault domains.now after.now hint.now number slot.now) }
+{
+    let RadioSlot::There(radio) = slot else {
+        return Ok(None);
+    };
+    let self_managed = radio.chans.profile().self_managed();
+    let driver = driver_after(hint, number, radio.driver);
+    let table = radio_table(
+        alloc,
+        domains,
+        after,
+        self_managed,
+        radio.custom.as_ref(),
+        driver,
+    )?;
+    Ok(Some(table))
+}
+
+/// The tables of the lists that apply to the radios after the hint, which led to the hints `after`, by
+/// their numbers. The first list that has too many rows tells how many.
+pub(crate) fn new_tables(
+    alloc: Global,
+    domains: &Domains,
+    after: &Hints,
+    hint: &Hint,
+    radios: &[RadioSlot],
+) -> Result<Vec<Option<Table>>, ResolveFault>
+    ensures tables { IfOk result (λ tables. AreNewTables domains.now after.now hint.now radios.now tables.items) }
+    ensures fault { IfErr result (IsRowsFault (lists_after domains.now after.now hint.now 0 radios.now)) }
+{
+    let mut tables = Vec::with_capacity(alloc, radios.len())?;
+    for (number, slot) in radios.iter().enumerate() {
+        tables.push(new_table(alloc, domains, after, hint, number, slot)?)?;
+    }
+    Ok(tables)
+}
+
+/// The hint came, and leaves the place with this table.
+fn retune_slot(
+    slot: &mut RadioSlot,
+    number: usize,
+    table: Option<Table>,
+    domains: &Domains,
+    before: &Hints,
+    after: &Hints,
+    hint: &Hint,
+)
+    requires table { IsNewTable domains.now after.now hint.now number slot.old table }
+    ensures kept { (J : Journal) → KeepsSlot domains.now J number slot.old → hints_of J ≡ before.now → hints_of (hinted (Treated hint.now) ∷ J) ≡ after.now
+        → KeepsSlot domains.now (hinted (Treated hint.now) ∷ J) number slot.new }
+{
+    let RadioSlot::There(radio) = slot else {
+        return;
+    };
+    let Some(table) = table else {
+        return;
+    };
+    let self_managed = radio.chans.profile().self_managed();
+    let driver = driver_after(hint, number, radio.driver);
+    let was = region_of(domains, before, self_managed, radio.driver);
+    let is = region_of(domains, after, self_managed, driver);
+    radio.retune(driver, table, is_moved(was, is));
+}
+
+/// The hint came, which led from the hints `before` to the hints `after`, and leaves the radios with
+/// their new tables.
+pub(crate) fn retune_all(
+    radios: &mut [RadioSlot],
+    tables: Vec<Option<Table>>,
+    domains: &Domains,
+    before: &Hints,
+    after: &Hints,
+    hint: &Hint,
+)
+    requires tables { AreNewTables domains.now after.now hint.now radios.old tables.items }
+    ensures kept { (J : Journal) → KeepsRadios domains.now J radios.old → hints_of J ≡ before.now → hints_of (hinted (Treated hint.now) ∷ J) ≡ after.now
+        → KeepsRadios domains.now (hinted (Treated hint.now) ∷ J) radios.new }
+{
+    let mut tables = tables;
+    'places: while let Some(table) = tables.pop() {
+        let number = tables.len();
+        retune_slot(
+            &mut radios[number],
+            number,
+            table,
+            domains,
+            before,
+            after,
+            hint,
+        );
+    }
+}

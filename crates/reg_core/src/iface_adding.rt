@@ -1,0 +1,77 @@
+//! Interfaces that come.
+
+ghost use Rattle.std.specs.Prelude.{◌≡◌, ◌+◌, List, MatchOption, MatchResult};
+ghost use Rattle.rule_tables.specs.declared.domain.Domain.{Domain};
+ghost use Rattle.reg_journal.specs.Causes.{IsFree};
+ghost use Rattle.chan_def.specs.declared.kind.Kind.{Kind};
+ghost use Rattle.reg_journal.specs.Due.{IsDue};
+ghost use Rattle.reg_journal.specs.Facts.{Journal, made};
+ghost use Rattle.reg_journal.specs.Present.{made_of};
+ghost use Rattle.reg_journal.specs.Refusals.{IfaceAddCauses};
+ghost use Rattle.reg_core.specs.Deciding.{Declines, IsCore, Takes};
+ghost use Rattle.reg_core.specs.Kept.{StandsFor};
+
+use crate::core_parts::Core;
+use crate::declined::Declined;
+use crate::port::{Port, count_on, free_slot_on, port_named};
+use crate::radios::radio_at;
+use chan_def::Kind;
+use chan_flags::PowerSetting;
+use radio_drv::Name;
+use reg_hints::RadioNo;
+use reg_journal::Refusal;
+
+/// How many interfaces a radio may have.
+const MOST_ON_RADIO: usize = 8;
+
+impl Core {
+    /// Why the interface can't come to the radio.
+    fn iface_refusal(&self, radio: RadioNo, name: &Name) -> Option<Refusal>
+        ensures due { (db : List Domain) (J : Journal) → StandsFor db self.now J
+            → MatchOption result ((kind : Kind) → IsDue db J (made (made_of J + 1) name.now radio kind)) (λ _. Unit {0}) }
+        ensures first { (db : List Domain) (J : Journal) → StandsFor db self.now J
+            → MatchOption result (IsFree (IfaceAddCauses J radio name.now)) (IfaceAddCauses J radio name.now) }
+    {
+        let Some(_radio) = radio_at(&self.radios, radio) else {
+            return Some(Refusal::NoRadio(radio));
+        };
+        let ports = self.ports.as_slice();
+        if let Some(_port) = port_named(ports, name) {
+            return Some(Refusal::NameTaken(*name));
+        }
+        if count_on(ports, radio) >= MOST_ON_RADIO || self.made >= u32::MAX {
+            return Some(Refusal::Full);
+        }
+        None
+    }
+
+    /// The interface comes to the radio, with the next index and the least slot that is free there.
+    pub(crate) fn add_iface(
+        &mut self,
+        radio: RadioNo,
+        name: Name,
+        kind: Kind,
+    ) -> Result<(), Declined>
+        requires core { IsCore self.old }
+        ensures taken { (db : List Domain) (J : Journal) → StandsFor db self.old J → MatchResult result
+            (λ _. Takes db J (IfaceAddCauses J radio name) (made (made_of J + 1) name radio kind) self.new)
+            (Declines (IfaceAddCauses J radio name) ⊥ self.old self.new) }
+    {
+        if let Some(refusal) = self.iface_refusal(radio, &name) {
+            return Err(Declined::Refused(refusal));
+        }
+        let index = self.made + 1;
+        let port = Port {
+            index,
+            name,
+            radio,
+            slot: free_slot_on(self.ports.as_slice(), radio),
+            kind,
+            setting: PowerSetting::Auto,
+            operation: None,
+        };
+        self.ports.push(port)?;
+        self.made = index;
+        Ok(())
+    }
+}

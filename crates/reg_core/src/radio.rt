@@ -1,0 +1,167 @@
+//! Radios.
+
+ghost use Rattle.std.specs.Prelude.{◌≡◌, IfOk, map};
+
+use crate::domains::{Domains, OwnRules};
+use crate::tables::new_radio_table;
+use chan_flags::{Profile, RadioChans};
+use dfs_states::DfsBook;
+use freq_range::OutOfMemory;
+use reg_hints::Hints;
+use rule_intersect::Table;
+use rule_tables::Alpha2;
+use std::alloc::Global;
+
+/// What is kept of a radio.
+#[derive(Drop)]
+pub(crate) struct Radio {
+    /// Its own rules, as a domain.
+    pub(crate) custom: Option<OwnRules>,
+    /// The code of its driver's last hint.
+    pub(crate) driver: Option<Alpha2>,
+    /// The rows of the domains that apply to it.
+    pub(crate) table: Table,
+    pub(crate) chans: RadioChans,
+    pub(crate) book: DfsBook,
+}
+
+/// The place of a radio's number.
+#[derive(Drop)]
+pub(crate) enum RadioSlot {
+    /// No radio was there yet.
+    Free,
+    /// The radio has gone, and its number with it.
+    Removed,
+    There(Radio),
+}
+
+/// The centres of a radio's channels, in kHz.
+fn centres_of(alloc: Global, chans: &RadioChans) -> Result<Vec<u32>, OutOfMemory>
+    ensures { IfOk result (λ centres. centres.items ≡ map (λ c. c.khz) chans.now.chans) }
+{
+    let mut centres = Vec::with_capacity(alloc, chans.len())?;
+    let mut i = 0;
+    'channels: while let Some(chan) = chans.chan(i) {
+        centres.push(chan.khz)?;
+        i += 1;
+    }
+    Ok(centres)
+}
+
+impl Radio {
+    ghost use Rattle.std.specs.Prelude.{◌≡◌, ◌∷◌, ◌≤◌, ◌^◌, ℕ, List, None, IfOk, not};
+    ghost use Rattle.freq_range.specs.declared.rule.Rule.{Rule};
+    ghost use Rattle.rule_intersect.specs.Tables.{IsTableOf};
+    ghost use Rattle.reg_hints.specs.Table.{Hinted};
+    ghost use Rattle.reg_journal.specs.Applicable.{applies, driver_code_of, hints_of, is_same_region, own_domain, region_of};
+    ghost use Rattle.reg_journal.specs.Due.{AreDue};
+    ghost use Rattle.reg_journal.specs.Facts.{hinted, radio_added, rules_are};
+    ghost use Rattle.reg_journal.specs.Present.{now_of};
+    ghost use Rattle.reg_core.specs.Lists.{global_by};
+    ghost use Rattle.reg_core.specs.Making.{HasTable};
+    ghost use Rattle.rule_tables.specs.declared.domain.Domain.{Domain};
+    ghost use Rattle.reg_journal.specs.Due.{IsDue};
+    ghost use Rattle.reg_journal.specs.Facts.{Journal, moment_is};
+    ghost use Rattle.reg_core.specs.Kept.{KeepsRadio};
+
+    /// A new radio at the present moment, in ms. It has neither rules of its own nor a driver's hint.
+    pub(crate) fn new(
+        alloc: Global,
+        domains: &Domains,
+        hints: &Hints,
+        profile: Profile,
+        now: u64,
+    ) -> Result<Radio, OutOfMemory>
+        requires time { now ≤ 10 ^ 15 }
+        requires global { HasTable (global_by domains.now hints.now) }
+        ensures kept { IfOk result (λ radio. (J : Journal) (r : ℕ) → hints_of J ≡ hints.now → now_of J ≡ now → driver_code_of J r ≡ None
+            → AreDue domains.now (radio_added r profile ∷ J) → KeepsRadio domains.now (radio_added r profile ∷ J) r radio) }
+    {
+        let table = new_radio_table(alloc, domains, hints, profile.self_managed())?;
+        let mut chans = RadioChans::new(alloc, profile)?;
+        chans.refresh(&table);
+        let centres = centres_of(alloc, &chans)?;
+        let mut book = DfsBook::new(alloc, centres.as_slice())?;
+        book.advance(now);
+        Ok(Radio {
+            custom: None,
+            driver: None,
+            table,
+            chans,
+            book,
+        })
+    }
+
+    /// A hint came, after which the code of the driver's last hint and the rows of the list that applies
+    /// are these, and the radio's region has changed or not.
+    pub(crate) fn retune(&mut self, driver: Option<Alpha2>, table: Table, region_changed: bool)
+        ensures kept { (db : List Domain) (J : Journal) (r : ℕ) (hint : Hinted) → KeepsRadio db J r self.old
+            → driver_code_of (hinted hint ∷ J) r ≡ driver → IsTableOf (applies db (hinted hint ∷ J) r) table
+            → region_changed ≡ not (is_same_region (region_of db (hinted hint ∷ J) r) (region_of db J r))
+            → KeepsRadio db (hinted hint ∷ J) r self.new }
+    {
+        self.driver = driver;
+        self.chans.refresh(&table);
+        self.table = table;
+        if region_changed {
+            self.book.region_changed();
+        }
+    }
+
+    /// It has these rules of its own from now on, and the rows of the list that then applies.
+    pub(crate) fn rule(&mut self, custom: OwnRules, table: Table)
+        ensures kept { (db : List Domain) (J : Journal) (r : ℕ) (rules : List Rule) → KeepsRadio db J r self.old
+            → custom ≡ own_domain rules → IsTableOf (applies db (rules_are r rules ∷ J) r) table
+            → KeepsRadio db (rules_are r rules ∷ J) r self.new }
+    {
+        self.custom = Some(custom);
+        self.chans.refresh(&table);
+        self.table = table;
+    }
+
+    /// It is `now`, in ms, which isn't earlier than before.
+    pub(crate) fn advance(&mut self, now: u64)
+        requires { now ≤ 10 ^ 15 }
+        ensures kept { (db : List Domain) (J : Journal) (r : ℕ) → KeepsRadio db J r self.old → IsDue db J (moment_is now)
+            → KeepsRadio db (moment_is now ∷ J) r self.new }
+    {
+        self.book.advance(now);
+    }
+}
+
+impl RadioSlot {
+    ghost use Rattle.std.specs.Prelude.{◌≡◌, ◌↔◌, ◌∷◌, ◌≤◌, ◌^◌, ℕ, false, IsTrue, List};
+    ghost use Rattle.std.specs.Option.{option_copied};
+    ghost use Rattle.rule_tables.specs.declared.domain.Domain.{Domain};
+    ghost use Rattle.reg_journal.specs.Due.{IsDue};
+    ghost use Rattle.reg_journal.specs.Facts.{Journal, moment_is};
+    ghost use Rattle.reg_journal.specs.Present.{is_used};
+    ghost use Rattle.reg_core.specs.Kept.{KeepsSlot, radio_in};
+
+    pub(crate) fn advance(&mut self, now: u64)
+        requires { now ≤ 10 ^ 15 }
+        ensures kept { (db : List Domain) (J : Journal) (r : ℕ) → KeepsSlot db J r self.old → IsDue db J (moment_is now)
+            → KeepsSlot db (moment_is now ∷ J) r self.new }
+    {
+        if let RadioSlot::There(radio) = self {
+            radio.advance(now);
+        }
+    }
+
+    /// Whether no radio was there yet.
+    pub(crate) fn is_free(&self) -> bool
+        ensures { (db : List Domain) (J : Journal) (r : ℕ) → KeepsSlot db J r self.now → IsTrue result ↔ (is_used J r ≡ false) }
+    {
+        matches!(self, RadioSlot::Free)
+    }
+
+    /// The radio, where it is there.
+    pub(crate) fn radio(&self) -> Option<&Radio>
+        ensures { option_copied result ≡ radio_in self.now }
+    {
+        match self {
+            RadioSlot::There(radio) => Some(radio),
+            RadioSlot::Free | RadioSlot::Removed => None,
+        }
+    }
+}

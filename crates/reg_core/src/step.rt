@@ -1,0 +1,191 @@
+//! One step of the core.
+
+ghost use Rattle.std.specs.Prelude.{◌≡◌, [], ℕ, List, Option, IfOk, OnErr, map};
+ghost use Rattle.std.specs.Option.{option_map};
+ghost use Rattle.rule_tables.specs.declared.domain.Domain.{Domain};
+ghost use Rattle.chan_def.specs.declared.kind.Kind.TheVariants.{Ap};
+ghost use Rattle.chan_flags.specs.Profiles.{IsProfile};
+ghost use Rattle.radio_drv.specs.Seen.{Seen, seen};
+ghost use Rattle.reg_journal.specs.Facts.{Journal};
+ghost use Rattle.reg_journal.specs.Replies.{IsAskable};
+ghost use Rattle.reg_journal.specs.declared.reply.Reply.TheVariants.{Plain};
+ghost use Rattle.reg_journal.specs.declared.request.Request.TheVariants.{At, RadioAdd, UserHint, IfaceAdd, Start, Stop};
+ghost use Rattle.reg_core.specs.Deciding.{IsCore, IsReplyOf};
+ghost use Rattle.reg_core.specs.Kept.{StandsFor};
+ghost use Rattle.reg_core.specs.Stepping.{IsReady, IsStep};
+
+use crate::core_parts::Core;
+use crate::declined::Declined;
+use crate::drivers::Drivers;
+use crate::starting::StartFault;
+use chan_def::{ChanDef, Kind};
+use chan_flags::Profile;
+use freq_range::OutOfMemory;
+use radio_drv::Name;
+use reg_hints::RadioNo;
+use reg_journal::{Answer, Effects, HintAnswer, Refusal, Reply, Request};
+use rule_tables::Alpha2;
+
+/// The answer, which nothing else came of.
+fn plain(answer: Answer) -> Reply
+    ensures { result ≡ Plain answer [] }
+{
+    Reply::Plain {
+        answer,
+        effects: Effects::new(),
+    }
+}
+
+/// The reply to a request that is declined.
+fn declined_reply(declined: Declined) -> Result<Reply, OutOfMemory>
+    ensures { IsReplyOf declined result }
+{
+    match declined {
+        Declined::Refused(refusal) => Ok(plain(Answer::Refused(refusal))),
+        Declined::PutOff => Ok(plain(Answer::Refused(Refusal::NotBuilt))),
+        Declined::OutOfMemory => Err(OutOfMemory),
+    }
+}
+
+impl Core {
+    /// Answers one request (`NL80211_CMD_*`). `OutOfMemory` changes nothing.
+    pub fn step(&mut self, request: &Request, drivers: &mut Drivers) -> Result<Reply, OutOfMemory>
+        requires ready { IsReady self.old (map (λ o. option_map (λ b. seen (on_air b) (told b) (count b) (steady b)) o) drivers.old.items) }
+        requires askable { IsAskable request.now }
+        // The reply is the journal's and the core stands for the next one, whatever journal it stood for; a request that isn't built
+        // yet changes nothing.
+        ensures step { IfOk result (λ reply. (db : List Domain) (J : Journal) → StandsFor db self.old J → IsStep db J request.now self.old self.new
+            (map (λ o. option_map (λ b. seen (on_air b) (told b) (count b) (steady b)) o) drivers.old.items)
+            (map (λ o. option_map (λ b. seen (on_air b) (told b) (count b) (steady b)) o) drivers.new.items) reply) }
+        ensures core_stays { OnErr result (self.new ≡ self.old) }
+        ensures drivers_stay { OnErr result (map (λ o. option_map (λ b. seen (on_air b) (told b) (count b) (steady b)) o) drivers.new.items
+            ≡ map (λ o. option_map (λ b. seen (on_air b) (told b) (count b) (steady b)) o) drivers.old.items) }
+        // The core still stands for a journal, and the drivers have its running operations on air.
+        ensures ready { IsReady self.new (map (λ o. option_map (λ b. seen (on_air b) (told b) (count b) (steady b)) o) drivers.new.items) }
+    {
+        self.answer(request, drivers)
+    }
+
+    fn answer(&mut self, request: &Request, drivers: &mut Drivers) -> Result<Reply, OutOfMemory>
+        requires ready { IsReady self.old (map (λ o. option_map (λ b. seen (on_air b) (told b) (count b) (steady b)) o) drivers.old.items) }
+        requires askable { IsAskable request.now }
+        ensures step { IfOk result (λ reply. (db : List Domain) (J : Journal) → StandsFor db self.old J → IsStep db J request.now self.old self.new
+            (map (λ o. option_map (λ b. seen (on_air b) (told b) (count b) (steady b)) o) drivers.old.items)
+            (map (λ o. option_map (λ b. seen (on_air b) (told b) (count b) (steady b)) o) drivers.new.items) reply) }
+        ensures core_stays { OnErr result (self.new ≡ self.old) }
+        ensures drivers_stay { OnErr result (map (λ o. option_map (λ b. seen (on_air b) (told b) (count b) (steady b)) o) drivers.new.items
+            ≡ map (λ o. option_map (λ b. seen (on_air b) (told b) (count b) (steady b)) o) drivers.old.items) }
+    {
+        match request {
+            Request::At(moment) => self.step_at(*moment),
+            Request::RadioAdd { radio, profile } => self.step_radio_add(*radio, *profile),
+            Request::UserHint(alpha2) => self.step_user_hint(*alpha2),
+            Request::IfaceAdd { radio, name, kind } => self.step_iface_add(*radio, *name, *kind),
+            Request::Start { name, kind, chan } => match kind {
+                Kind::Ap => Ok(self.step_start(name, chan, drivers)),
+                Kind::Ibss | Kind::Mesh | Kind::Station | Kind::Monitor => Ok(plain(Answer::Refused(
+                    Refusal::NotBuilt,
+                ))),
+            },
+            Request::Stop { name, kind } => match kind {
+                Kind::Ap => Ok(self.step_stop(name, drivers)),
+                Kind::Ibss | Kind::Mesh | Kind::Station | Kind::Monitor => Ok(plain(Answer::Refused(
+                    Refusal::NotBuilt,
+                ))),
+            },
+            Request::RadioDel(_)
+            | Request::RadioRules { .. }
+            | Request::Element { .. }
+            | Request::DriverHint { .. }
+            | Request::Radar { .. }
+            | Request::Indoor(_)
+            | Request::IfaceDel(_)
+            | Request::SetType { .. }
+            | Request::SetPower { .. }
+            | Request::Check { .. }
+            | Request::GetReg
+            | Request::Channels(_)
+            | Request::RadioInfo(_)
+            | Request::IfaceInfo(_) => Ok(plain(Answer::Refused(Refusal::NotBuilt))),
+        }
+    }
+
+    fn step_at(&mut self, moment: u64) -> Result<Reply, OutOfMemory>
+        requires core { IsCore self.old }
+        ensures step { IfOk result (λ reply. (db : List Domain) (J : Journal) (heard : List (Option Seen)) → StandsFor db self.old J
+            → IsStep db J (At moment) self.old self.new heard heard reply) }
+        ensures core_stays { OnErr result (self.new ≡ self.old) }
+    {
+        match self.at(moment) {
+            Ok(()) => Ok(plain(Answer::Ok)),
+            Err(declined) => declined_reply(declined),
+        }
+    }
+
+    fn step_radio_add(&mut self, radio: RadioNo, profile: Profile) -> Result<Reply, OutOfMemory>
+        requires core { IsCore self.old }
+        requires profile { IsProfile profile }
+        ensures step { IfOk result (λ reply. (db : List Domain) (J : Journal) (heard : List (Option Seen)) → StandsFor db self.old J
+            → IsStep db J (RadioAdd radio profile) self.old self.new heard heard reply) }
+        ensures core_stays { OnErr result (self.new ≡ self.old) }
+    {
+        match self.add_radio(radio, profile) {
+            Ok(()) => Ok(plain(Answer::Ok)),
+            Err(declined) => declined_reply(declined),
+        }
+    }
+
+    fn step_user_hint(&mut self, alpha2: Alpha2) -> Result<Reply, OutOfMemory>
+        requires core { IsCore self.old }
+        ensures step { IfOk result (λ reply. (db : List Domain) (J : Journal) (heard : List (Option Seen)) → StandsFor db self.old J
+            → IsStep db J (UserHint alpha2) self.old self.new heard heard reply) }
+        ensures core_stays { OnErr result (self.new ≡ self.old) }
+    {
+        match self.user_hint(alpha2) {
+            Ok(treatment) => Ok(plain(Answer::Hint(HintAnswer::Treated(treatment)))),
+            Err(declined) => declined_reply(declined),
+        }
+    }
+
+    fn step_iface_add(
+        &mut self,
+        radio: RadioNo,
+        name: Name,
+        kind: Kind,
+    ) -> Result<Reply, OutOfMemory>
+        requires core { IsCore self.old }
+        ensures step { IfOk result (λ reply. (db : List Domain) (J : Journal) (heard : List (Option Seen)) → StandsFor db self.old J
+            → IsStep db J (IfaceAdd radio name kind) self.old self.new heard heard reply) }
+        ensures core_stays { OnErr result (self.new ≡ self.old) }
+    {
+        match self.add_iface(radio, name, kind) {
+            Ok(()) => Ok(plain(Answer::Ok)),
+            Err(declined) => declined_reply(declined),
+        }
+    }
+
+    fn step_start(&mut self, name: &Name, chan: &ChanDef, drivers: &mut Drivers) -> Reply
+        requires ready { IsReady self.old (map (λ o. option_map (λ b. seen (on_air b) (told b) (count b) (steady b)) o) drivers.old.items) }
+        ensures step { (db : List Domain) (J : Journal) → StandsFor db self.old J → IsStep db J (Start name.now Ap chan.now) self.old self.new
+            (map (λ o. option_map (λ b. seen (on_air b) (told b) (count b) (steady b)) o) drivers.old.items)
+            (map (λ o. option_map (λ b. seen (on_air b) (told b) (count b) (steady b)) o) drivers.new.items) result }
+    {
+        match self.start(name, Kind::Ap, chan, drivers) {
+            Ok(power_mbm) => plain(Answer::Started(power_mbm)),
+            Err(StartFault::Refused(refusal)) => plain(Answer::Refused(refusal)),
+            Err(StartFault::Driver) => plain(Answer::Refused(Refusal::DriverFailed)),
+        }
+    }
+
+    fn step_stop(&mut self, name: &Name, drivers: &mut Drivers) -> Reply
+        requires ready { IsReady self.old (map (λ o. option_map (λ b. seen (on_air b) (told b) (count b) (steady b)) o) drivers.old.items) }
+        ensures step { (db : List Domain) (J : Journal) → StandsFor db self.old J → IsStep db J (Stop name.now Ap) self.old self.new
+            (map (λ o. option_map (λ b. seen (on_air b) (told b) (count b) (steady b)) o) drivers.old.items)
+            (map (λ o. option_map (λ b. seen (on_air b) (told b) (count b) (steady b)) o) drivers.new.items) result }
+    {
+        match self.stop(name, Kind::Ap, drivers) {
+            Ok(()) => plain(Answer::Ok),
+            Err(refusal) => plain(Answer::Refused(refusal)),
+        }
+    }
+}
