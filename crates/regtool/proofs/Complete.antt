@@ -1,134 +1,88 @@
--- What follows from the answer, where the input is told: the whole output, or the fault, or the length.
-use Rattle.std.proofs.Common.{◌≡◌, ℕ, ◌<◌, ◌≤◌, List, [], length, get_or, Option, Some, inl, inr, refl, sym, ◌∙◌, ap, subst, arith}
-use Rattle.std.specs.Prelude.{IfSome, ◌⊎◌}
+-- What follows from the answer of the top call, where what is lent is told.
+use Rattle.std.proofs.Common.{◌≡◌, ℕ, List, [], length, get_or, ◌⊎◌, inl, inr, refl, sym, ◌∙◌, ap, subst, arith}
 use Rattle.std.specs.declared.alloc.Global.{Global}
 use Rattle.std.specs.declared.string.String.{String}
-use Rattle.rule_tables.specs.declared.domain.Domain.{Domain}
-use Rattle.regtool.specs.Answer.{Call, HasInput, IsAnswer, IsComplete, IsConverted, IsRead, MayConvert, TellsFault, TellsLength, WritesOutput, input_limit}
-use Rattle.regtool.specs.Conversions.{Names, IsAccepted, IsOutputOf, IsInputFault, Gives, name_of}
+use Rattle.regtool.specs.Answer.{ConvertsTo, IsAnswer, IsComplete, RunsTo, TellsFault, TellsLength}
+use Rattle.regtool.specs.Conversions.{Names}
+use Rattle.regtool.specs.Converted.{IsConverted}
+use Rattle.regtool.specs.Devices.{Devices}
+use Rattle.regtool.specs.Run.{IsRun, NamesRun}
 use Rattle.regtool.specs.declared.conversion.Conversion.{Conversion}
-use Rattle.regtool.specs.declared.conversion.Conversion.TheVariants.{Compile, Decompile, Check}
-use Rattle.regtool.specs.declared.status.InputFault.{InputFault}
 use Rattle.regtool.specs.declared.status.Status.{Status}
 use Rattle.regtool.specs.declared.status.Status.TheVariants.{Done, Usage, Refused, ReadFault, WriteFault, NoMemory, TooLong}
-use Rattle.regtool.proofs.OneFault.{StandsFor-unique, IsAccepted-no_fault, IsInputFault-unique}
+use Rattle.regtool.proofs.FromConversion.{Names-unique, completed, told_fault, told_length}
+use Rattle.regtool.proofs.FromRun.{ran_fault, ran_long_file, ran_long_script, ran_whole}
 
--- what holds of the bytes that a source told holds of these
-of_told : (left : Option (List ℕ)) (input : List ℕ) (P : List ℕ → Type 0) → left ≡ Some input → IfSome left P → P input
-of_told left input P told h = subst (λ o. IfSome o P) told h
+-- ---- the answer
 
--- ---- words
+pub answer_of_run : (words : List (String Global)) (d : Devices) (name : List ℕ) (status : Status) → NamesRun words name → IsRun d name status → IsAnswer words d status
+answer_of_run words d name Done named run = inr (name, named, run)
+answer_of_run words d name Usage named run = absurd run
+answer_of_run words d name (Refused fault) named run = inr (name, named, run)
+answer_of_run words d name ReadFault named run = inr (name, named, run)
+answer_of_run words d name WriteFault named run = inr (name, named, run)
+answer_of_run words d name NoMemory named run = inr (name, named, run)
+answer_of_run words d name TooLong named run = inr (name, named, run)
 
--- commands of one name are the same: their names have different lengths
-name_of-injective : (c d : Conversion) → length (name_of c) ≡ length (name_of d) → c ≡ d
-name_of-injective Compile Compile same = refl
-name_of-injective Compile Decompile same = absurd (omega (arith, same))
-name_of-injective Compile Check same = absurd (omega (arith, same))
-name_of-injective Decompile Compile same = absurd (omega (arith, same))
-name_of-injective Decompile Decompile same = refl
-name_of-injective Decompile Check same = absurd (omega (arith, same))
-name_of-injective Check Compile same = absurd (omega (arith, same))
-name_of-injective Check Decompile same = absurd (omega (arith, same))
-name_of-injective Check Check same = refl
+-- ---- which command was done
 
-Names-unique : (words : List (String Global)) (c d : Conversion) → Names words c → Names words d → c ≡ d
-Names-unique words c d one other =
-    name_of-injective c d (ap (λ names. length (get_or names 0 [])) (sym one ∙ other))
+-- a conversion is one word, and `run` two
+not_both : (words : List (String Global)) (c : Conversion) (name : List ℕ) → Names words c → NamesRun words name → ⊥
+not_both words c name one two =
+    let lengths : 1 ≡ 2 = ap length (sym one ∙ two) in
+    omega (arith, lengths)
 
--- The command that the words name is the one that was done.
-done_for : (call : Call) (c d : Conversion) (status : Status) → Names call.words c → Names call.words d → IsConverted d call.input call.output status → IsConverted c call.input call.output status
-done_for call c d status one other done =
-    subst (λ e. IsConverted e call.input call.output status) (Names-unique call.words d c other one) done
+NamesRun-unique : (words : List (String Global)) (name other : List ℕ) → NamesRun words name → NamesRun words other → name ≡ other
+NamesRun-unique words name other one two = ap (λ ws. get_or ws 1 []) (sym one ∙ two)
 
--- What the program answers to the form of a command is what that command ends with.
-pub converted_from : (call : Call) (c : Conversion) (status : Status) → Names call.words c → IsAnswer call status → IsConverted c call.input call.output status
-converted_from call c Done named (d, other, done) = done_for call c d Done named other done
-converted_from call c Usage named (no_form, input, output) = absurd (no_form (c, named))
-converted_from call c (Refused fault) named (d, other, done) = done_for call c d (Refused fault) named other done
-converted_from call c ReadFault named (d, other, done) = done_for call c d ReadFault named other done
-converted_from call c WriteFault named (d, other, done) = done_for call c d WriteFault named other done
-converted_from call c NoMemory named (d, other, done) = done_for call c d NoMemory named other done
-converted_from call c TooLong named (d, other, done) = done_for call c d TooLong named other done
+-- the conversion that the words name is the one that was done
+converted : (words : List (String Global)) (d : Devices) (c : Conversion) (status : Status) → Names words c → ConvertsTo words d status → IsConverted c d.input d.output status
+converted words d c status named (other, there, done, unread, left) =
+    subst (λ e. IsConverted e d.input d.output status) (Names-unique words other c there named) done
 
--- ---- the whole output
+-- Either the one or the other was done, but for `Usage`.
+done_or_none : (words : List (String Global)) (d : Devices) (status : Status) → IsAnswer words d status
+    → (((status ≡ Usage) × ((c : Conversion) → Names words c → ⊥) × ((name : List ℕ) → NamesRun words name → ⊥)) ⊎ (ConvertsTo words d status ⊎ RunsTo words d status))
+done_or_none words d Done answer = inr answer
+done_or_none words d Usage answer = inl (refl, (λ c named. answer.0 (inl (c, named))), (λ name named. answer.0 (inr (name, named))))
+done_or_none words d (Refused fault) answer = inr answer
+done_or_none words d ReadFault answer = inr answer
+done_or_none words d WriteFault answer = inr answer
+done_or_none words d NoMemory answer = inr answer
+done_or_none words d TooLong answer = inr answer
 
--- the output that was given for the input is that of the database as which it is accepted
-same_output : (c : Conversion) (input : List ℕ) (ds : List Domain) (bytes : List ℕ) → IsAccepted c input ds → Gives c input bytes → IsOutputOf c ds bytes
-same_output c input ds bytes accepted (es, other, output) =
-    subst (λ fs. IsOutputOf c fs bytes) (StandsFor-unique c input es ds other.stands_for accepted.stands_for) output
+pub converted_from : (words : List (String Global)) (d : Devices) (c : Conversion) (status : Status) → Names words c → IsAnswer words d status → IsConverted c d.input d.output status
+converted_from words d c status named answer = elim (done_or_none words d status answer) [
+  | inl none ↦ absurd (none.1 c named)
+  | inr some ↦ elim some [ inl converts ↦ converted words d c status named converts | inr runs ↦ absurd (not_both words c runs.0 named runs.1) ]
+]
 
-completed : (call : Call) (c : Conversion) (status : Status) (input : List ℕ) (ds : List Domain)
-    → IsConverted c call.input call.output status → MayConvert call c input ds → (status ≡ NoMemory) ⊎ ((status ≡ Done) × WritesOutput call c ds)
-completed call c Done input ds read may =
-    let same : input ≡ read.given = of_told _ input _ may.has_input.told read.all in
-    let accepted : IsAccepted c read.given ds = subst (λ xs. IsAccepted c xs ds) same may.accepted in
-    let (bytes, gives, appends) = read.holds in
-    inr (refl, record { at_end = read.at_end; output = (bytes, same_output c read.given ds bytes accepted gives, appends) })
-completed call c Usage input ds none may = absurd none
-completed call c (Refused fault) input ds (read, output) may =
-    let same : input ≡ read.given = of_told _ input _ may.has_input.told read.all in
-    absurd (IsAccepted-no_fault c read.given ds fault (subst (λ xs. IsAccepted c xs ds) same may.accepted) read.holds)
-completed call c ReadFault input ds (fault, output) may = absurd (may.has_input.reads fault)
-completed call c WriteFault input ds (fault, read) may = absurd (may.writes fault)
-completed call c NoMemory input ds output may = inl refl
-completed call c TooLong input ds (longer, output) may =
-    let above = of_told _ input _ may.has_input.told longer in
-    absurd (omega (arith, above, may.within))
+pub run_from : (words : List (String Global)) (d : Devices) (name : List ℕ) (status : Status) → NamesRun words name → IsAnswer words d status → IsRun d name status
+run_from words d name status named answer = elim (done_or_none words d status answer) [
+  | inl none ↦ absurd (none.2 name named)
+  | inr some ↦ elim some [
+    | inl converts ↦ absurd (not_both words converts.0 name converts.1 named)
+    | inr runs ↦ subst (λ n. IsRun d n status) (NamesRun-unique words runs.0 name runs.1 named) runs.2
+  ]
+]
 
-pub complete_from : (call : Call) (status : Status) → IsAnswer call status → IsComplete call status
-complete_from call status answer c input ds may =
-    completed call c status input ds (converted_from call c status may.has_input.form answer) may
+-- ---- what comes of it
 
--- ---- the fault
+pub complete_from : (words : List (String Global)) (d : Devices) (status : Status) → IsAnswer words d status → IsComplete words d status
+complete_from words d status answer = record {
+  conversion = λ c input ds may. completed words d c status input ds (converted_from words d c status may.has_input.form answer) may;
+  run = λ db script may. ran_whole words d may.has_script.file.name status db script may refl (run_from words d may.has_script.file.name status may.has_script.file.form answer);
+}
 
--- an input for which an output was given has no fault
-no_output : (c : Conversion) (input : List ℕ) (bytes : List ℕ) (fault : InputFault) → Gives c input bytes → IsInputFault c input fault → ⊥
-no_output c input bytes fault (ds, accepted, output) h = IsAccepted-no_fault c input ds fault accepted h
+pub fault_from : (words : List (String Global)) (d : Devices) (status : Status) → IsAnswer words d status → TellsFault words d status
+fault_from words d status answer = record {
+  conversion = λ c input fault has within is. told_fault words d c status input fault (converted_from words d c status has.form answer) has within is;
+  run = λ bytes fault file within is. ran_fault words d file.name status bytes fault file refl within is (run_from words d file.name status file.form answer);
+}
 
-told_fault : (call : Call) (c : Conversion) (status : Status) (input : List ℕ) (fault : InputFault)
-    → IsConverted c call.input call.output status → HasInput call c input → length input ≤ input_limit → IsInputFault c input fault
-    → (status ≡ NoMemory) ⊎ (status ≡ Refused fault)
-told_fault call c Done input fault read has within h =
-    let same : input ≡ read.given = of_told _ input _ has.told read.all in
-    let (bytes, gives, appends) = read.holds in
-    absurd (no_output c read.given bytes fault gives (subst (λ xs. IsInputFault c xs fault) same h))
-told_fault call c Usage input fault none has within h = absurd none
-told_fault call c (Refused other) input fault (read, output) has within h =
-    let same : input ≡ read.given = of_told _ input _ has.told read.all in
-    inr (ap Refused (IsInputFault-unique c read.given other fault read.holds (subst (λ xs. IsInputFault c xs fault) same h)))
-told_fault call c ReadFault input fault (failed, output) has within h = absurd (has.reads failed)
-told_fault call c WriteFault input fault (failed, read) has within h =
-    let same : input ≡ read.given = of_told _ input _ has.told read.all in
-    let (bytes, gives, appends) = read.holds in
-    absurd (no_output c read.given bytes fault gives (subst (λ xs. IsInputFault c xs fault) same h))
-told_fault call c NoMemory input fault output has within h = inl refl
-told_fault call c TooLong input fault (longer, output) has within h =
-    let above = of_told _ input _ has.told longer in
-    absurd (omega (arith, above, within))
-
-pub fault_from : (call : Call) (status : Status) → IsAnswer call status → TellsFault call status
-fault_from call status answer c input fault has within h =
-    told_fault call c status input fault (converted_from call c status has.form answer) has within h
-
--- ---- the length
-
--- what was read is no longer than the limit
-not_longer : (call : Call) (input : List ℕ) (P : List ℕ → Type 0) → call.input.before ≡ Some input → input_limit < length input → IsRead call.input P → ⊥
-not_longer call input P told above read =
-    let same : input ≡ read.given = of_told _ input _ told read.all in
-    let long : input_limit < length read.given = subst (λ xs. input_limit < length xs) same above in
-    omega (arith, long, read.within)
-
-told_length : (call : Call) (c : Conversion) (status : Status) (input : List ℕ)
-    → IsConverted c call.input call.output status → HasInput call c input → input_limit < length input → (status ≡ NoMemory) ⊎ (status ≡ TooLong)
-told_length call c Done input read has above = absurd (not_longer call input _ has.told above read)
-told_length call c Usage input none has above = absurd none
-told_length call c (Refused fault) input (read, output) has above = absurd (not_longer call input _ has.told above read)
-told_length call c ReadFault input (failed, output) has above = absurd (has.reads failed)
-told_length call c WriteFault input (failed, read) has above = absurd (not_longer call input _ has.told above read)
-told_length call c NoMemory input output has above = inl refl
-told_length call c TooLong input longer has above = inr refl
-
-pub length_from : (call : Call) (status : Status) → IsAnswer call status → TellsLength call status
-length_from call status answer c input has above =
-    told_length call c status input (converted_from call c status has.form answer) has above
+pub length_from : (words : List (String Global)) (d : Devices) (status : Status) → IsAnswer words d status → TellsLength words d status
+length_from words d status answer = record {
+  conversion = λ c input has above. told_length words d c status input (converted_from words d c status has.form answer) has above;
+  database = λ bytes file above. ran_long_file words d file.name status bytes file refl above (run_from words d file.name status file.form answer);
+  script = λ db script has above. ran_long_script words d has.file.name status db script has refl above (run_from words d has.file.name status has.file.form answer);
+}

@@ -28,9 +28,9 @@ name_of Check = codes "check"
 abbrev pub Names : List (String Global) → Conversion → Type 0
 Names words command = map string_bytes words ≡ name_of command ∷ []
 
--- the words are the form of a command
-abbrev pub IsForm : List (String Global) → Type 0
-IsForm words = (command : Conversion) × Names words command
+-- the words are the form of such a command
+abbrev pub IsConversion : List (String Global) → Type 0
+IsConversion words = (command : Conversion) × Names words command
 
 -- ---- outputs
 

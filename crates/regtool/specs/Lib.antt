@@ -1,4 +1,10 @@
 pub mod Lines
 pub mod Status
+pub mod Devices
 pub mod Conversions
+pub mod Converted
+pub mod Output
+pub mod Driven
+pub mod Run
+pub mod Turns
 pub mod Answer

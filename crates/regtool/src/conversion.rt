@@ -3,7 +3,7 @@
 ghost use Rattle.std.specs.Prelude.{◌≡◌, ◌↔◌, ◌*◌, ◌≤◌, [], ◌∷◌, All, IfErr, IfOk, IsTrue, MatchOption, length, map, string_bytes};
 ghost use Rattle.rule_tables.specs.Databases.{IsDb};
 ghost use Rattle.rule_tables.specs.FileFormat.{ReadsAs};
-ghost use Rattle.regtool.specs.Conversions.{Gives, IsForm, IsRefusal, Names, count_line, rule_count};
+ghost use Rattle.regtool.specs.Conversions.{Gives, IsConversion, IsRefusal, Names, count_line, rule_count};
 
 use crate::line::line_of;
 use crate::status::InputFault;
@@ -48,7 +48,7 @@ fn are_only(words: &[String], name: &str) -> bool
 impl Conversion {
     /// The command whose form the words are, or `None` where they are the form of none.
     pub fn named(words: &[String]) -> Option<Conversion>
-        ensures { MatchOption result (IsForm words.now → ⊥) (Names words.now) }
+        ensures { MatchOption result (IsConversion words.now → ⊥) (Names words.now) }
     {
         if are_only(words, "compile") {
             Some(Conversion::Compile)

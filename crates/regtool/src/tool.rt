@@ -1,67 +1,102 @@
-//! The program as a function of its words, its input and its output.
+//! The program as a function of its words and of what it is lent.
 
-ghost use Rattle.std.specs.Prelude.{◌≤◌};
-ghost use Rattle.regtool.specs.Answer.{IsAnswer, IsComplete, IsConverted, TellsFault, TellsLength, around, called};
+ghost use Rattle.std.specs.Prelude.{◌≤◌, map};
+ghost use Rattle.std.specs.Option.{option_map};
+ghost use Rattle.radio_drv.specs.Seen.{seen};
+ghost use Rattle.regtool.specs.Answer.{IsAnswer, IsComplete, TellsFault, TellsLength};
+ghost use Rattle.regtool.specs.Converted.{IsConverted};
+ghost use Rattle.regtool.specs.Devices.{around, devices, driven, stored};
+ghost use Rattle.regtool.specs.Driven.{AreIdle};
 
 #[cfg(test)]
 mod tests;
 
 use crate::conversion::{Conversion, Refusal};
+use crate::run::{database_named, run};
 use crate::status::Status;
-use reg_base::{FileFault, Sink, Source, read_to_end};
+use reg_base::{FileFault, Files, Sink, Source, read_to_end};
+use reg_core::Drivers;
 use std::alloc::Global;
 
 /// How many bytes a rule text or a database may have.
 const INPUT_LIMIT: usize = 16_777_216;
 
-/// Runs the program on the words behind its name. `compile` reads a rule text and writes its
-/// database, `decompile` reads a database and writes its text, and `check` reads one and writes how
-/// many countries and rules it has; other words are `Usage`. The first thing that fails gives the
-/// status, in the order words, reading, the limit, the input's fault, writing.
-pub fn regtool<S: Source, K: Sink>(
+/// Runs the program on the words behind its name, with eight drivers of radios that were told nothing
+/// yet. `compile` reads a rule text and writes its database, `decompile` reads a database and writes
+/// its text, `check` reads one and writes how many countries and rules it has, and `run DB` reads the
+/// database file DB and a script, and writes the replies to the script's lines; other words are
+/// `Usage`. The first thing that fails gives the status, in the order words, file, its database, input,
+/// the input's fault, writing.
+pub fn regtool<F: Files, S: Source, K: Sink>(
     alloc: Global,
     words: &[String],
+    files: &mut F,
     input: &mut S,
     out: &mut K,
+    drivers: &mut Drivers,
 ) -> Status
-    // What each status says of what was read and written.
-    ensures answer { IsAnswer (called words.now
+    requires idle { AreIdle 8 (map (λ o. option_map (λ b. seen (on_air b) (told b) ((Driver-box b).count b.value) (steady b)) o) drivers.old.items) }
+    // What each status says of what was read and written, and told to the drivers.
+    ensures answer { IsAnswer words.now (devices
+        (stored (F.holds files.old) (F.holds files.new) (F.count files.old) (F.count files.new))
         (around (S.left input.old) (S.left input.new) (S.count input.old) (S.count input.new))
-        (around (K.held out.old) (K.held out.new) (K.count out.old) (K.count out.new))) result }
-    // That an input which is accepted gives its output.
-    ensures complete { IsComplete (called words.now
+        (around (K.held out.old) (K.held out.new) (K.count out.old) (K.count out.new))
+        (driven (map (λ o. option_map (λ b. seen (on_air b) (told b) ((Driver-box b).count b.value) (steady b)) o) drivers.old.items)
+        (map (λ o. option_map (λ b. seen (on_air b) (told b) ((Driver-box b).count b.value) (steady b)) o) drivers.new.items))) result }
+    // That what is accepted gives its output.
+    ensures complete { IsComplete words.now (devices
+        (stored (F.holds files.old) (F.holds files.new) (F.count files.old) (F.count files.new))
         (around (S.left input.old) (S.left input.new) (S.count input.old) (S.count input.new))
-        (around (K.held out.old) (K.held out.new) (K.count out.old) (K.count out.new))) result }
-    // That an input with a fault is refused by that fault.
-    ensures fault { TellsFault (called words.now
+        (around (K.held out.old) (K.held out.new) (K.count out.old) (K.count out.new))
+        (driven (map (λ o. option_map (λ b. seen (on_air b) (told b) ((Driver-box b).count b.value) (steady b)) o) drivers.old.items)
+        (map (λ o. option_map (λ b. seen (on_air b) (told b) ((Driver-box b).count b.value) (steady b)) o) drivers.new.items))) result }
+    // That what has a fault is refused by that fault.
+    ensures fault { TellsFault words.now (devices
+        (stored (F.holds files.old) (F.holds files.new) (F.count files.old) (F.count files.new))
         (around (S.left input.old) (S.left input.new) (S.count input.old) (S.count input.new))
-        (around (K.held out.old) (K.held out.new) (K.count out.old) (K.count out.new))) result }
-    // That an input above the limit is too long.
-    ensures length { TellsLength (called words.now
+        (around (K.held out.old) (K.held out.new) (K.count out.old) (K.count out.new))
+        (driven (map (λ o. option_map (λ b. seen (on_air b) (told b) ((Driver-box b).count b.value) (steady b)) o) drivers.old.items)
+        (map (λ o. option_map (λ b. seen (on_air b) (told b) ((Driver-box b).count b.value) (steady b)) o) drivers.new.items))) result }
+    // That what is above the limit is too long.
+    ensures length { TellsLength words.now (devices
+        (stored (F.holds files.old) (F.holds files.new) (F.count files.old) (F.count files.new))
         (around (S.left input.old) (S.left input.new) (S.count input.old) (S.count input.new))
-        (around (K.held out.old) (K.held out.new) (K.count out.old) (K.count out.new))) result }
+        (around (K.held out.old) (K.held out.new) (K.count out.old) (K.count out.new))
+        (driven (map (λ o. option_map (λ b. seen (on_air b) (told b) ((Driver-box b).count b.value) (steady b)) o) drivers.old.items)
+        (map (λ o. option_map (λ b. seen (on_air b) (told b) ((Driver-box b).count b.value) (steady b)) o) drivers.new.items))) result }
+    ensures file_faults { F.count files.old ≤ F.count files.new }
     ensures input_faults { S.count input.old ≤ S.count input.new }
     ensures output_faults { K.count out.old ≤ K.count out.new }
 {
-    dispatch(alloc, words, input, out)
+    dispatch(alloc, words, files, input, out, drivers)
 }
 
 /// Does what the words say.
-fn dispatch<S: Source, K: Sink>(
+fn dispatch<F: Files, S: Source, K: Sink>(
     alloc: Global,
     words: &[String],
+    files: &mut F,
     input: &mut S,
     out: &mut K,
+    drivers: &mut Drivers,
 ) -> Status
+    requires idle { AreIdle 8 (map (λ o. option_map (λ b. seen (on_air b) (told b) ((Driver-box b).count b.value) (steady b)) o) drivers.old.items) }
+    ensures file_faults { F.count files.old ≤ F.count files.new }
     ensures input_faults { S.count input.old ≤ S.count input.new }
     ensures output_faults { K.count out.old ≤ K.count out.new }
-    ensures answer { IsAnswer (called words.now
+    ensures answer { IsAnswer words.now (devices
+        (stored (F.holds files.old) (F.holds files.new) (F.count files.old) (F.count files.new))
         (around (S.left input.old) (S.left input.new) (S.count input.old) (S.count input.new))
-        (around (K.held out.old) (K.held out.new) (K.count out.old) (K.count out.new))) result }
+        (around (K.held out.old) (K.held out.new) (K.count out.old) (K.count out.new))
+        (driven (map (λ o. option_map (λ b. seen (on_air b) (told b) ((Driver-box b).count b.value) (steady b)) o) drivers.old.items)
+        (map (λ o. option_map (λ b. seen (on_air b) (told b) ((Driver-box b).count b.value) (steady b)) o) drivers.new.items))) result }
 {
     match Conversion::named(words) {
         Some(command) => convert(command, alloc, input, out),
-        None => Status::Usage,
+        None => match database_named(words) {
+            Some(name) => run(alloc, name, files, input, out, drivers),
+            None => Status::Usage,
+        },
     }
 }
 

@@ -6,12 +6,19 @@ ghost use Rattle.std.specs.Prelude.{◌<◌};
 mod databases;
 mod files;
 mod rule_texts;
+mod run;
 mod text_faults;
 
 use super::regtool;
+use crate::driver_row::add_driver;
 use crate::status::{InputFault, Status, status_text};
 use db_text::{TextFault, TextKind};
-use reg_base::{Bytes, FailingSink, FailingSource, MemSink, MemSource, Source, StdSink, StdSource};
+use radio_drv::{FailingDriver, SimDriver};
+use reg_base::{
+    Bytes, FailingSink, FailingSource, Files, MemFiles, MemSink, MemSource, Sink, Source, StdSink,
+    StdSource,
+};
+use reg_core::Drivers;
 use rule_tables::{Alpha2, DbFault};
 use std::alloc::Global;
 use std::process::Abort;
@@ -74,15 +81,55 @@ fn bytes(alloc: Global, text: &[u8]) -> Result<Bytes, Fail> {
     Ok(bytes)
 }
 
+/// What the words of the line answer, with eight drivers of which the first fails at the listed calls;
+/// and how often it failed.
+fn call<F: Files, S: Source, K: Sink>(
+    alloc: Global,
+    line: &str,
+    failing: &[u64],
+    files: &mut F,
+    input: &mut S,
+    out: &mut K,
+) -> Result<(Status, u64), Fail> {
+    let words = words(alloc, line)?;
+    let mut drivers: Drivers = Vec::new(alloc);
+    let first = FailingDriver::new(alloc, failing)?;
+    add_driver(&mut drivers, Box::new(alloc, first)?)?;
+    add_driver(&mut drivers, Box::new(alloc, SimDriver::new())?)?;
+    add_driver(&mut drivers, Box::new(alloc, SimDriver::new())?)?;
+    add_driver(&mut drivers, Box::new(alloc, SimDriver::new())?)?;
+    add_driver(&mut drivers, Box::new(alloc, SimDriver::new())?)?;
+    add_driver(&mut drivers, Box::new(alloc, SimDriver::new())?)?;
+    add_driver(&mut drivers, Box::new(alloc, SimDriver::new())?)?;
+    add_driver(&mut drivers, Box::new(alloc, SimDriver::new())?)?;
+    let status = regtool(alloc, words.as_slice(), files, input, out, &mut drivers);
+    let faults = match drivers.as_slice() {
+        [Some(driver), ..] => driver.faults(),
+        _ => 0,
+    };
+    Ok((status, faults))
+}
+
+/// What the words of the line answer where there are no files.
+fn answer<S: Source, K: Sink>(
+    alloc: Global,
+    line: &str,
+    input: &mut S,
+    out: &mut K,
+) -> Result<Status, Fail> {
+    let mut files = MemFiles::new(alloc, "", Bytes::new(alloc))?;
+    let (status, _faults) = call(alloc, line, &[], &mut files, input, out)?;
+    Ok(status)
+}
+
 /// What `compile` answers, and the sink that it wrote to, which has the room.
 fn compile<S: Source>(
     alloc: Global,
     input: &mut S,
     room: usize,
 ) -> Result<(Status, MemSink), Fail> {
-    let words = words(alloc, "compile")?;
     let mut out = MemSink::new(alloc, room)?;
-    let status = regtool(alloc, words.as_slice(), input, &mut out);
+    let status = answer(alloc, "compile", input, &mut out)?;
     Ok((status, out))
 }
 
@@ -210,11 +257,15 @@ fn other_words_are_usage(rt: HostRuntime) -> Result<(), Fail> {
         "check check",
         "CHECK",
         "checks",
+        "run",
+        "run regulatory.db script",
+        "RUN regulatory.db",
+        "runs regulatory.db",
+        "regulatory.db run",
     ] {
-        let words = words(rt.alloc(), line)?;
         let mut input = MemSource::new(bytes(rt.alloc(), US)?, 16);
         let mut out = MemSink::new(rt.alloc(), ROOM)?;
-        let status = regtool(rt.alloc(), words.as_slice(), &mut input, &mut out);
+        let status = answer(rt.alloc(), line, &mut input, &mut out)?;
         assert_eq!(rt; status, Status::Usage, "for {line}");
         assert!(rt; out.written().is_empty(), "for {line}");
     }
@@ -240,10 +291,9 @@ fn a_failed_read_writes_nothing(rt: HostRuntime) -> Result<(), Fail> {
 
 #[test]
 fn a_failed_write_is_told(rt: HostRuntime) -> Result<(), Fail> {
-    let words = words(rt.alloc(), "compile")?;
     let mut input = MemSource::new(bytes(rt.alloc(), US)?, 16);
     let mut out = FailingSink::new(rt.alloc(), ROOM, &[1])?;
-    let status = regtool(rt.alloc(), words.as_slice(), &mut input, &mut out);
+    let status = answer(rt.alloc(), "compile", &mut input, &mut out)?;
     assert_eq!(rt; status, Status::WriteFault);
     assert!(rt; out.written().is_empty());
     Ok(())
@@ -252,11 +302,10 @@ fn a_failed_write_is_told(rt: HostRuntime) -> Result<(), Fail> {
 // A slice takes what it has room for, and then nothing more.
 #[test]
 fn a_write_that_stops_leaves_a_front(rt: HostRuntime) -> Result<(), Fail> {
-    let words = words(rt.alloc(), "compile")?;
     let mut room = [0u8; 21];
     let mut input = MemSource::new(bytes(rt.alloc(), US)?, 16);
     let mut out = StdSink::new(room.as_mut_slice());
-    let status = regtool(rt.alloc(), words.as_slice(), &mut input, &mut out);
+    let status = answer(rt.alloc(), "compile", &mut input, &mut out)?;
     assert_eq!(rt; status, Status::WriteFault);
     drop(out);
     assert_eq!(rt; room.as_slice(), &US_FILE[..21]);
@@ -275,11 +324,10 @@ fn a_file_needs_room_for_all_of_it(rt: HostRuntime) -> Result<(), Fail> {
 
 #[test]
 fn readers_and_writers_of_std_are_streams(rt: HostRuntime) -> Result<(), Fail> {
-    let words = words(rt.alloc(), "compile")?;
     let mut written = Vec::new(rt.alloc());
     let mut input = StdSource::new(US);
     let mut out = StdSink::new(&mut written);
-    let status = regtool(rt.alloc(), words.as_slice(), &mut input, &mut out);
+    let status = answer(rt.alloc(), "compile", &mut input, &mut out)?;
     assert_eq!(rt; status, Status::Done);
     assert_eq!(rt; written.as_slice(), US_FILE.as_slice());
     Ok(())

@@ -2,9 +2,8 @@
 //! hand from the format.
 
 use super::rule_texts::{DE_FILE, GB_FILE};
-use super::{ROOM, TWO_FILE, US as US_TEXT, US_CODE as US, US_FILE, bytes, words};
+use super::{ROOM, TWO_FILE, US as US_TEXT, US_CODE as US, US_FILE, bytes};
 use crate::status::{InputFault, Status};
-use crate::tool::regtool;
 use reg_base::{MemSink, MemSource};
 use rule_tables::{Alpha2, DbFault};
 use std::alloc::Global;
@@ -67,10 +66,9 @@ country DE: DFS-ETSI
 
 /// What the command answers for the file, and the sink that it wrote to.
 fn answer(alloc: Global, command: &str, file: &[u8]) -> Result<(Status, MemSink), Fail> {
-    let words = words(alloc, command)?;
     let mut input = MemSource::new(bytes(alloc, file)?, 16);
     let mut out = MemSink::new(alloc, ROOM)?;
-    let status = regtool(alloc, words.as_slice(), &mut input, &mut out);
+    let status = super::answer(alloc, command, &mut input, &mut out)?;
     Ok((status, out))
 }
 

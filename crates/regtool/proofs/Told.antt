@@ -1,0 +1,101 @@
+-- The requests that are built begin no check, so the check last told to each driver stays.
+use Rattle.std.proofs.Common.{◌≡◌, ℕ, List, [], ◌∷◌, ◌++◌, Bool, Option, Some, None, MatchOption, IsSomeAnd, inl, inr, refl, sym, ap, subst, ◌∙◌}
+use Rattle.std.specs.Option.{option_to_list}
+use Rattle.rule_tables.specs.declared.domain.Domain.{Domain}
+use Rattle.chan_def.specs.declared.definition.ChanDef.{ChanDef}
+use Rattle.chan_def.specs.declared.kind.Kind.TheVariants.{Ap}
+use Rattle.reg_journal.specs.Facts.{Fact, Journal, after, check_dropped, powered, started, stopped}
+use Rattle.reg_journal.specs.OnAir.{told_of}
+use Rattle.reg_journal.specs.Permits.{IsPowerOf}
+use Rattle.reg_journal.specs.Present.{Check, Iface, Operation, check_of, named, operation_of}
+use Rattle.reg_journal.specs.Replies.{Decides, Gives, OnNamed, Steps, Sweeps}
+use Rattle.reg_journal.specs.Sweep.{AreSwept, Becomes, CheckBecomes, OperationBecomes}
+use Rattle.reg_journal.specs.declared.refusal.Refusal.{Refusal}
+use Rattle.reg_journal.specs.declared.reply.Answer.{Answer}
+use Rattle.reg_journal.specs.declared.reply.Answer.TheVariants.{Started}
+use Rattle.reg_journal.specs.declared.reply.Reply.{Reply}
+use Rattle.reg_journal.specs.declared.request.Request.{Request}
+use Rattle.reg_journal.specs.declared.request.Request.TheVariants.{At, RadioAdd, UserHint, IfaceAdd, Start, Stop}
+use Rattle.reg_core.specs.Heard.{told_after}
+use Rattle.reg_core.specs.Stepping.{IsBuilt}
+
+-- these facts tell the driver of the radio no check
+abbrev pub Quiet : ℕ → List Fact → Type 0
+Quiet r facts = (K : Journal) → told_of (after facts K) r ≡ told_of K r
+
+quiet_as : (r : ℕ) (facts given : List Fact) → facts ≡ given → Quiet r given → Quiet r facts
+quiet_as r facts given same quiet = subst (Quiet r) (sym same) quiet
+
+after-append : (xs ys : List Fact) (K : Journal) → after (xs ++ ys) K ≡ after ys (after xs K)
+after-append [] ys K = refl
+after-append (f ∷ xs) ys K = after-append xs ys (f ∷ K)
+
+quiet_append : (r : ℕ) (xs ys : List Fact) → Quiet r xs → Quiet r ys → Quiet r (xs ++ ys)
+quiet_append r xs ys one other K = ap (λ M. told_of M r) (after-append xs ys K) ∙ other (after xs K) ∙ one K
+
+-- ---- sweeps
+
+quiet_operation : (r : ℕ) (db : List Domain) (J : Journal) (x : Iface) (o : Operation) (f : Option Fact) → OperationBecomes db J x o f → Quiet r (option_to_list f)
+quiet_operation r db J x o None is K = refl
+quiet_operation r db J x o (Some (stopped i)) is K = refl
+quiet_operation r db J x o (Some (powered i p)) is K = refl
+quiet_operation r db J x o (Some f) is K = absurd is
+
+quiet_check : (r : ℕ) (db : List Domain) (J : Journal) (x : Iface) (k : Check) (f : Option Fact) → CheckBecomes db J x k f → Quiet r (option_to_list f)
+quiet_check r db J x k None is K = refl
+quiet_check r db J x k (Some (check_dropped i)) is K = refl
+quiet_check r db J x k (Some f) is K = absurd is
+
+quiet_fate : (r : ℕ) (db : List Domain) (J : Journal) (x : Iface) (f : Option Fact) → Becomes db J x f → Quiet r (option_to_list f)
+quiet_fate r db J x f = on (operation_of J x.index) (check_of J x.index)
+  where
+    on : (o : Option Operation) (k : Option Check) → MatchOption o (MatchOption k (f ≡ None) (λ k. CheckBecomes db J x k f)) (λ o. OperationBecomes db J x o f) → Quiet r (option_to_list f)
+    on (Some o) k is = quiet_operation r db J x o f is
+    on None (Some k) is = quiet_check r db J x k f is
+    on None None is = subst (λ g. Quiet r (option_to_list g)) (sym is) (λ K. refl)
+
+quiet_swept : (r : ℕ) (db : List Domain) (J : Journal) (xs : List Iface) (facts : List Fact) → AreSwept db J xs facts → Quiet r facts
+quiet_swept r db J [] facts none = quiet_as r facts [] none (λ K. refl)
+quiet_swept r db J (x ∷ xs) facts (f, rest, fate, swept, all) =
+    quiet_as r facts (option_to_list f ++ rest) all (quiet_append r (option_to_list f) rest (quiet_fate r db J x f fate) (quiet_swept r db J xs rest swept))
+
+-- ---- requests
+
+quiet_decided : (r : ℕ) (causes : Refusal → Type 0) (granted : Reply → List Fact → Type 0) → ((reply : Reply) (facts : List Fact) → granted reply facts → Quiet r facts)
+    → (reply : Reply) (facts : List Fact) → Decides causes granted reply facts → Quiet r facts
+quiet_decided r causes granted quiet reply facts (inl (e, cause, is, none)) = quiet_as r facts [] none (λ K. refl)
+quiet_decided r causes granted quiet reply facts (inr (free, given)) = quiet reply facts given
+
+quiet_on_named : (r : ℕ) (J : Journal) (name : List ℕ) (granted : Iface → Reply → List Fact → Type 0) → ((x : Iface) (reply : Reply) (facts : List Fact) → granted x reply facts → Quiet r facts)
+    → (reply : Reply) (facts : List Fact) → OnNamed J name granted reply facts → Quiet r facts
+quiet_on_named r J name granted quiet reply facts = on (named J name)
+  where
+    on : (o : Option Iface) → IsSomeAnd o (λ x. granted x reply facts) → Quiet r facts
+    on None h = absurd h
+    on (Some x) h = quiet x reply facts h
+
+quiet_gives : (r : ℕ) (answer : Answer) (given : List Fact) → Quiet r given → (reply : Reply) (facts : List Fact) → Gives answer given reply facts → Quiet r facts
+quiet_gives r answer given quiet reply facts h = quiet_as r facts given h.1 quiet
+
+quiet_sweeps : (r : ℕ) (db : List Domain) (J : Journal) (answer : Answer) (fact : Fact) (xs : List Iface) → Quiet r (fact ∷ []) → (reply : Reply) (facts : List Fact) → Sweeps db J answer fact xs reply facts → Quiet r facts
+quiet_sweeps r db J answer fact xs quiet reply facts (swept, are, is, all) =
+    quiet_as r facts (fact ∷ swept) all (quiet_append r (fact ∷ []) swept quiet (quiet_swept r db (fact ∷ J) xs swept are))
+
+quiet_started : (r : ℕ) (db : List Domain) (J : Journal) (c : ChanDef) (x : Iface) (reply : Reply) (facts : List Fact)
+    → (power : ℕ) × IsPowerOf db J x c power × Gives (Started power) (started x.index c power ∷ []) reply facts → Quiet r facts
+quiet_started r db J c x reply facts (power, is, given) = quiet_gives r _ _ (λ K. refl) reply facts given
+
+quiet_request : (r : ℕ) (db : List Domain) (J : Journal) (q : Request) (failed : Bool) (reply : Reply) (next : Journal) → IsBuilt db J q → Steps db J q failed reply next
+    → told_of next r ≡ told_after J q reply r (told_of J r)
+quiet_request r db J (At moment) failed reply next built (facts, is, here) = ap (λ K. told_of K r) here ∙ quiet_decided r _ _ (quiet_gives r _ _ (λ K. refl)) reply facts is J
+quiet_request r db J (RadioAdd k profile) failed reply next built (facts, is, here) = ap (λ K. told_of K r) here ∙ quiet_decided r _ _ (quiet_gives r _ _ (λ K. refl)) reply facts is J
+quiet_request r db J (UserHint a) failed reply next built (facts, is, here) = ap (λ K. told_of K r) here ∙ quiet_decided r _ _ (quiet_sweeps r db J _ _ _ (λ K. refl)) reply facts is J
+quiet_request r db J (IfaceAdd k name kind) failed reply next built (facts, is, here) = ap (λ K. told_of K r) here ∙ quiet_decided r _ _ (quiet_gives r _ _ (λ K. refl)) reply facts is J
+quiet_request r db J (Start name Ap c) failed reply next built (facts, is, here) = ap (λ K. told_of K r) here ∙ quiet_decided r _ _ (quiet_on_named r J name _ (quiet_started r db J c)) reply facts is J
+quiet_request r db J (Stop name Ap) failed reply next built (facts, is, here) = ap (λ K. told_of K r) here ∙ quiet_decided r _ _ (quiet_on_named r J name _ (λ x. quiet_gives r _ _ (λ K. refl))) reply facts is J
+quiet_request r db J q failed reply next built steps = absurd built
+
+-- the check last told is the one that the next journal says, where it was the one before
+pub told_next : (r : ℕ) (db : List Domain) (J : Journal) (q : Request) (failed : Bool) (reply : Reply) (next : Journal) → IsBuilt db J q → Steps db J q failed reply next
+    → told_after J q reply r (told_of J r) ≡ told_of next r
+told_next r db J q failed reply next built steps = sym (quiet_request r db J q failed reply next built steps)

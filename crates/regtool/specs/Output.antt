@@ -1,0 +1,60 @@
+-- What a script gives: line by line, from the oldest on, what each gives at the journal that the lines before it left.
+use Rattle.std.specs.Prelude.{◌≡◌, ℕ, ◌⊎◌, Bool, true, false, List, [], ◌∷◌, ◌++◌, Option, Some, None, Result, Ok, Err, IsSomeAnd}
+use Rattle.rule_tables.specs.declared.domain.Domain.{Domain}
+use Rattle.reg_journal.specs.Facts.{Journal}
+use Rattle.reg_journal.specs.Replies.{Steps}
+use Rattle.reg_journal.specs.declared.refusal.Refusal.TheVariants.{NotBuilt}
+use Rattle.reg_journal.specs.declared.reply.Answer.TheVariants.{Refused}
+use Rattle.reg_journal.specs.declared.reply.Reply.{Reply}
+use Rattle.reg_journal.specs.declared.reply.Reply.TheVariants.{Plain}
+use Rattle.reg_journal.specs.declared.request.Request.{Request}
+use Rattle.reg_core.specs.Heard.{driven_radio}
+use Rattle.reg_core.specs.Stepping.{IsBuilt, is_failed}
+use Rattle.iw_commands.specs.Lines.{Says}
+use Rattle.iw_commands.specs.Printed.{IsTextOf, line_fault_text}
+use Rattle.iw_commands.specs.Scripts.{lines_of}
+use Rattle.iw_commands.specs.declared.fault.LineFault.{LineFault}
+
+-- ---- a request
+
+-- The reply to the request at the journal, and the next journal. A request that isn't built yet is refused so, and leaves the
+-- journal.
+abbrev pub Answers : List Domain → Journal → Request → Reply → Journal → Type 0
+Answers db J q reply next =
+    (IsBuilt db J q × Steps db J q (is_failed reply) reply next)
+    ⊎ ((IsBuilt db J q → ⊥) × (reply ≡ Plain (Refused NotBuilt) []) × (next ≡ J))
+
+-- these radios' drivers failed: that of the request's radio, or none
+abbrev pub HaveFailed : Bool → Option ℕ → List ℕ → Type 0
+HaveFailed false radio failed = failed ≡ []
+HaveFailed true radio failed = IsSomeAnd radio (λ r. failed ≡ r ∷ [])
+
+-- ---- a line
+
+-- What a line that says this gives: its text, the radios whose drivers failed, and the next journal.
+abbrev pub SayingGives : List Domain → Journal → Result (Option Request) LineFault → List ℕ → List ℕ → Journal → Type 0
+SayingGives db J (Ok None) text failed next = (text ≡ []) × (failed ≡ []) × (next ≡ J)
+SayingGives db J (Ok (Some q)) text failed next =
+    (reply : Reply) × Answers db J q reply next × IsTextOf reply text × HaveFailed (is_failed reply) (driven_radio J q) failed
+SayingGives db J (Err fault) text failed next = (text ≡ line_fault_text fault) × (failed ≡ []) × (next ≡ J)
+
+abbrev pub LineGives : List Domain → Journal → List ℕ → List ℕ → List ℕ → Journal → Type 0
+LineGives db J line text failed next = (said : Result (Option Request) LineFault) × Says line said × SayingGives db J said text failed next
+
+-- ---- a script
+
+-- What the lines give: their texts one behind the other, the radio of each failure of a driver, and the last journal.
+abbrev pub LinesGive : List Domain → Journal → List (List ℕ) → List ℕ → List ℕ → Journal → Type 0
+LinesGive db J [] text failed last = (text ≡ []) × (failed ≡ []) × (last ≡ J)
+LinesGive db J (line ∷ lines) text failed last =
+    (first : List ℕ) × (failed_first : List ℕ) × (next : Journal) × LineGives db J line first failed_first next
+    × (rest : List ℕ) × (failed_rest : List ℕ) × LinesGive db next lines rest failed_rest last
+    × (text ≡ first ++ rest) × (failed ≡ failed_first ++ failed_rest)
+
+-- What the script gives from the empty journal on.
+abbrev pub ScriptGives : List Domain → List ℕ → List ℕ → List ℕ → Journal → Type 0
+ScriptGives db script text failed last = LinesGive db [] (lines_of script) text failed last
+
+-- The output of the script, with no driver failing.
+abbrev pub IsOutput : List Domain → List ℕ → List ℕ → Type 0
+IsOutput db script text = (last : Journal) × ScriptGives db script text [] last
