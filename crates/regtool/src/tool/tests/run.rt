@@ -90,6 +90,10 @@ fn starts_follow_the_rules_of_the_country(rt: HostRuntime) -> Result<(), Fail> {
         (RADIO, "ok\n"),
         (ACCESS_POINT, "ok\n"),
         (START_5180, "refused: NO-IR 5180\n"),
+        (
+            "iw dev ap0 ap start home 2467 100 2",
+            "refused: no rule 2467\n",
+        ),
         (START_2412, "started 2000\n"),
         (START_2412, "refused: busy\n"),
         ("iw reg set US", "refused: not built\n"),
