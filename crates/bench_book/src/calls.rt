@@ -3,12 +3,10 @@
 use crate::count::Count;
 use crate::draws::Draws;
 use crate::keeper::Keeper;
+use dfs_states::LAST_MOMENT_MS;
 
 /// How many calls are made.
 const CALLS: u64 = 1_000_000;
-
-/// The latest moment, in ms.
-const LAST_MOMENT: u64 = 1_000_000_000_000_000;
 
 /// How long a check takes, in ms.
 const CHECK_MS: u32 = 60_000;
@@ -25,7 +23,7 @@ fn make_call<K: Keeper>(keeper: &mut K, draws: &mut Draws, now: u64, count: &mut
             count.begun = count.begun.wrapping_add(u64::from(begun));
         }
         324..624 => {
-            let now = now.saturating_add(draws.below(4_000)).min(LAST_MOMENT);
+            let now = now.saturating_add(draws.below(4_000)).min(LAST_MOMENT_MS);
             keeper.advance(now);
             return now;
         }

@@ -1,14 +1,14 @@
 //! What the calls are made to.
 
-ghost use Rattle.std.specs.Prelude.{◌≤◌, ◌<◌, ◌^◌};
+ghost use Rattle.std.specs.Prelude.{◌≤◌};
 
 use chan_def::ChanDef;
-use dfs_states::{Dfs, DfsBook, IfSlot};
+use dfs_states::{Dfs, DfsBook, IfSlot, LAST_MOMENT_MS};
 
 /// One who keeps book of checks and radar.
 pub(crate) trait Keeper {
     fn advance(&mut self, now: u64)
-        requires { now ≤ 10 ^ 15 };
+        requires { now ≤ LAST_MOMENT_MS };
 
     fn radar(&mut self, c: &ChanDef);
 

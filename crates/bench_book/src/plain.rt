@@ -5,7 +5,7 @@ ghost use Rattle.std.specs.Prelude.{◌≤◌};
 use crate::draws::{CHANNELS, LOWEST_KHZ};
 use crate::keeper::Keeper;
 use chan_def::{ChanDef, Width};
-use dfs_states::Dfs;
+use dfs_states::{Dfs, NONOCCUPANCY_MS};
 
 /// Moments in ms, where 0 is none.
 #[derive(Drop)]
@@ -67,7 +67,7 @@ impl Keeper for Plain {
     fn radar(&mut self, c: &ChanDef) {
         let (first, past) = places(c);
         for k in first..past {
-            self.until[k] = self.now.wrapping_add(1_800_000);
+            self.until[k] = self.now.wrapping_add(NONOCCUPANCY_MS);
             self.since[k] = 0;
             for slot in 0..8 {
                 self.counts[slot][k] = false;

@@ -1,6 +1,6 @@
 //! Why nothing was timed.
 
-use freq_range::OutOfMemory;
+use reg_lists::OutOfMemory;
 use std::io;
 
 /// The word is no good, the input can't be read, or no memory was found.

@@ -2,15 +2,12 @@
 
 use crate::count::Count;
 use crate::stop::Stop;
-use rule_intersect::Table;
+use rule_intersect::{MOST_DOMAINS, Table};
 use rule_tables::Domain;
 use std::alloc::Global;
 
 /// How often the domains are joined.
 pub(crate) const ROUNDS: u32 = 10_000;
-
-/// The most domains of a table.
-const MOST_DOMAINS: usize = 1024;
 
 /// The table with the domain at its end.
 fn join_one(table: &Table, domain: &Domain) -> Result<Table, Stop> {

@@ -3,7 +3,8 @@
 ghost use Rattle.std.specs.Prelude.{◌≡◌, ◌+◌, ◌^◌, ◌<◌, ◌≤◌, length};
 
 use nl_attrs::{AttrFault, Decoder, NextFault};
-use reg_base::{Failed, OutOfMemory, Source};
+use reg_base::{Failed, Source};
+use reg_lists::OutOfMemory;
 use std::alloc::Global;
 
 /// How many bytes are read at once.

@@ -1,3 +1,4 @@
 pub mod Covered
 pub mod Kinds
+pub mod Same
 pub mod Words

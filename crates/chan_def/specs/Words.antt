@@ -31,17 +31,17 @@ abbrev pub blocks_160 : List ℕ
 blocks_160 = 5250000 ∷ 5570000 ∷ []
 
 -- where the word puts the centre of a channel with this control channel, both in kHz
-abbrev pub IsPlaced : IwWord → ℕ → ℕ → Type 0
-IsPlaced WithoutHt control centre = centre ≡ control
-IsPlaced Ht20 control centre = centre ≡ control
-IsPlaced Ht40Plus control centre = centre ≡ control + 10000
-IsPlaced Ht40Minus control centre = centre + 10000 ≡ control
-IsPlaced Vht80 control centre = Contains blocks_80 centre
-IsPlaced Vht160 control centre = Contains blocks_160 centre
+abbrev pub IsCentreByWord : IwWord → ℕ → ℕ → Type 0
+IsCentreByWord WithoutHt control centre = centre ≡ control
+IsCentreByWord Ht20 control centre = centre ≡ control
+IsCentreByWord Ht40Plus control centre = centre ≡ control + 10000
+IsCentreByWord Ht40Minus control centre = centre + 10000 ≡ control
+IsCentreByWord Vht80 control centre = Contains blocks_80 centre
+IsCentreByWord Vht160 control centre = Contains blocks_160 centre
 
 -- the word puts the centre there, the channel covers the control channel, and the centre is a u32
 pub record GivesCentre (word : IwWord) (control centre : ℕ) : Type 0 where
-  pub placed : IsPlaced word control centre
+  pub placed : IsCentreByWord word control centre
   pub covers_control : IsInside (width_khz (width_of word)) centre control
   pub fits : centre < 2 ^ 32
 

@@ -2,9 +2,13 @@
 
 ghost use Rattle.std.specs.Prelude.{◌≡◌, ◌/◌, ◌≤◌, ◌↔◌, IsTrue, MatchOption};
 ghost use Rattle.chan_def.specs.Covered.{width_khz, IsCovered, IsInside, IsSubchannel, IsValidDef};
+ghost use Rattle.chan_def.specs.Same.{is_same_channel};
 
 use crate::width::Width;
 use freq_range::khz_channel;
+
+/// The most subchannels of 20 MHz that a channel covers: those of 160 MHz.
+pub const MOST_SUBCHANNELS: u8 = 8;
 
 /// A channel: where it lies, and its control channel (`struct cfg80211_chan_def`).
 #[derive(Clone, Copy, Debug, PartialEq, Eq)]
@@ -29,6 +33,7 @@ impl ChanDef {
     /// Whether both are the same definition.
     pub fn is_same(&self, other: &ChanDef) -> bool
         ensures same { IsTrue result ↔ (self.now ≡ other.now) }
+        ensures told { result ≡ is_same_channel self.now other.now }
     {
         self.control_khz == other.control_khz
             && self.width == other.width

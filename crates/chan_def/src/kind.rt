@@ -2,6 +2,9 @@
 
 ghost use Rattle.std.specs.Prelude.{◌≡◌};
 
+/// The most interfaces of a radio.
+pub const MOST_IFACES: usize = 8;
+
 /// What an interface is for (`enum nl80211_iftype`).
 #[derive(Clone, Copy, Debug, PartialEq, Eq)]
 pub enum Kind {

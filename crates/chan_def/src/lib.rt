@@ -6,7 +6,7 @@ mod iw_word;
 mod kind;
 mod width;
 
-pub use definition::{ChanDef, covers, subchannels};
+pub use definition::{ChanDef, MOST_SUBCHANNELS, covers, subchannels};
 pub use iw_word::from_iw_word;
-pub use kind::Kind;
+pub use kind::{Kind, MOST_IFACES};
 pub use width::Width;

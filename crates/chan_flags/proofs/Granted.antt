@@ -12,7 +12,7 @@ use Rattle.rule_intersect.specs.Tuples.{Choice}
 use Rattle.rule_intersect.proofs.OwnRows.{element_at}
 use Rattle.chan_flags.specs.Fits.{FitsRule, IsFitting, IsGranting}
 use Rattle.chan_flags.specs.Lists.{IsRadioChannel}
-use Rattle.chan_flags.specs.Verdicts.{power_of, Bars, BarsNone, IsAllowed, IsGoverning, IsCheckLength, IsLimit, IsMissing, IsVerdict, IsWithin}
+use Rattle.chan_flags.specs.Verdicts.{power_of, Bars, BarsNone, IsAllowed, IsGoverning, IsCheckLength, IsLimit, IsMissing, IsVerdict, IsWithinLimit}
 use Rattle.chan_flags.specs.declared.asked.Asked.{Asked}
 use Rattle.chan_flags.specs.declared.asked.Obstacle.TheVariants.{Missing, Unruled, Narrow, OfdmBarred, IrBarred, OutdoorBarred}
 use Rattle.chan_flags.specs.declared.profile.Bands.{Bands}
@@ -47,7 +47,7 @@ least_width W40 = omega arith
 least_width W80 = omega arith
 least_width W160 = omega arith
 
-pub power_within : (setting : PowerSetting) (limit : ℕ) → IsWithin setting limit → power_of setting limit ≤ limit
+pub power_within : (setting : PowerSetting) (limit : ℕ) → IsWithinLimit setting limit → power_of setting limit ≤ limit
 power_within Auto limit within = omega arith
 power_within (Limit power) limit within = omega arith
 power_within (Fixed power) limit within = within

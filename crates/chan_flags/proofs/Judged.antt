@@ -5,12 +5,13 @@ use Rattle.freq_range.specs.declared.rule.Rule.{Rule}
 use Rattle.rule_tables.specs.declared.domain.Domain.{Domain}
 use Rattle.chan_def.specs.Covered.{width_khz, IsCovered}
 use Rattle.chan_def.specs.declared.definition.ChanDef.{ChanDef}
+use Rattle.rule_intersect.specs.declared.row.TheConstants.{LEAST_CHECK_MS}
 use Rattle.rule_intersect.specs.Subchannels.{AreGoverning, SomeLacksRule}
 use Rattle.rule_intersect.specs.Tuples.{Choice, check_ms, least_by, some_rule}
-use Rattle.chan_flags.specs.ByRecords.{channel_at, BarsBy, BarsChannel, FitHas, IfFit, IsBoundBy, IsCheckLengthBy, IsLimitBy, IsVerdictBy}
+use Rattle.chan_flags.specs.ByRecords.{chan_with_centre, BarsBy, BarsChannel, FitHas, IfFit, IsBoundBy, IsCheckLengthBy, IsLimitBy, IsVerdictBy}
 use Rattle.chan_flags.specs.Lists.{AreChannels, IsRadioChannel}
 use Rattle.chan_flags.specs.Records.{fit_of, AreRecords}
-use Rattle.chan_flags.specs.Verdicts.{Bars, BarsFirst, BarsNone, IsAllowed, IsBound, IsGoverning, IsCheckLength, IsLimit, IsMissing, IsRefusal, IsVerdict, SomeGoverning}
+use Rattle.chan_flags.specs.Verdicts.{Bars, BarsFirst, BarsNone, IsAllowed, IsBound, IsGoverning, IsCheckLength, IsLimit, IsMissing, IsChanRefusal, IsVerdict, SomeGoverning}
 use Rattle.chan_flags.specs.declared.asked.Asked.{Asked}
 use Rattle.chan_flags.specs.declared.asked.Obstacle.{Obstacle}
 use Rattle.chan_flags.specs.declared.asked.Obstacle.TheVariants.{Missing, Unruled, Narrow, OfdmBarred, IrBarred, OutdoorBarred}
@@ -131,7 +132,7 @@ limit_moved ds chans q limit some each is = record {
   ];
 }
   where
-    under : (s : ℕ) → IsRuled ds chans q.profile.bands s → IfFit (λ fit. limit ≤ fit.limit_mbm) (channel_at chans s) → (d : Domain) (g : Choice) → Contains ds d → IsGoverning d s g → limit ≤ g.rule.eirp_mbm
+    under : (s : ℕ) → IsRuled ds chans q.profile.bands s → IfFit (λ fit. limit ≤ fit.limit_mbm) (chan_with_centre chans s) → (d : Domain) (g : Choice) → Contains ds d → IsGoverning d s g → limit ≤ g.rule.eirp_mbm
     under s (khz, t, at, here, are) records d g has governs =
         let found = member_from (λ h. h ≡ g) ds s t are (d, has, g, governs, refl) in
         let less = subst (IfFit (λ fit. limit ≤ fit.limit_mbm)) at records in
@@ -139,14 +140,14 @@ limit_moved ds chans q limit some each is = record {
         let same = ap (λ c. c.rule.eirp_mbm) found.2 in
         omega (arith, less, least, same)
 
-    reached : (s : ℕ) → IsRuled ds chans q.profile.bands s → FitHas (λ fit. limit ≡ fit.limit_mbm) (channel_at chans s) → SomeGoverning (λ g. limit ≡ g.rule.eirp_mbm) ds s
+    reached : (s : ℕ) → IsRuled ds chans q.profile.bands s → FitHas (λ fit. limit ≡ fit.limit_mbm) (chan_with_centre chans s) → SomeGoverning (λ g. limit ≡ g.rule.eirp_mbm) ds s
     reached s (khz, t, at, here, are) has =
         let same = subst (FitHas (λ fit. limit ≡ fit.limit_mbm)) at has in
         let least = least_member (λ c. c.rule.eirp_mbm) t (some_domain ds s t some are) in
         SomeGoverning-member (λ g. limit ≡ g.rule.eirp_mbm) ds s t least.0 are least.1 (same ∙ least.2)
 
 no_check : (g : Choice) → g.rule.flags.dfs ≡ false → check_ms g.rule ≡ 0
-no_check g without = ap (λ b. cond b (cond (g.rule.cac_s == 0) 60000 (g.rule.cac_s * 1000)) 0) without
+no_check g without = ap (λ b. cond b (cond (g.rule.cac_s == 0) LEAST_CHECK_MS (g.rule.cac_s * 1000)) 0) without
 
 -- the length of the records' check is that of the rules
 length_moved : (ds : List Domain) (chans : List Chan) (q : Asked) (n : ℕ) → ((s : ℕ) → IsCovered q.chan s → IsRuled ds chans q.profile.bands s)
@@ -159,7 +160,7 @@ length_moved ds chans q n each is = record {
   ];
 }
   where
-    under : (s : ℕ) → IsRuled ds chans q.profile.bands s → IfFit (λ fit. IsTrue fit.flags.dfs → fit.check_ms ≤ n) (channel_at chans s)
+    under : (s : ℕ) → IsRuled ds chans q.profile.bands s → IfFit (λ fit. IsTrue fit.flags.dfs → fit.check_ms ≤ n) (chan_with_centre chans s)
         → (d : Domain) (g : Choice) → Contains ds d → IsGoverning d s g → IsTrue g.rule.flags.dfs → check_ms g.rule ≤ n
     under s (khz, t, at, here, are) records d g has governs dfs =
         let found = member_from (λ h. h ≡ g) ds s t are (d, has, g, governs, refl) in
@@ -169,7 +170,7 @@ length_moved ds chans q n each is = record {
         let same = ap (λ c. check_ms c.rule) found.2 in
         omega (arith, less, greatest, same)
 
-    reached : (s : ℕ) → IsCovered q.chan s → IsRuled ds chans q.profile.bands s → FitHas (λ fit. IsTrue fit.flags.dfs × (n ≡ fit.check_ms)) (channel_at chans s)
+    reached : (s : ℕ) → IsCovered q.chan s → IsRuled ds chans q.profile.bands s → FitHas (λ fit. IsTrue fit.flags.dfs × (n ≡ fit.check_ms)) (chan_with_centre chans s)
         → (n ≡ 0) ⊎ ((s : ℕ) × IsCovered q.chan s × SomeGoverning (λ g. IsTrue g.rule.flags.dfs × (n ≡ check_ms g.rule)) ds s)
     reached s covered (khz, t, at, here, are) has =
         let both = subst (FitHas (λ fit. IsTrue fit.flags.dfs × (n ≡ fit.check_ms))) at has in
@@ -184,7 +185,7 @@ length_moved ds chans q n each is = record {
 -- ---- the verdict
 
 refusal_moved : (ds : List Domain) (chans : List Chan) (q : Asked) → AreRecords ds chans → AreChannels q.profile.bands (map (λ c. c.khz) chans) → (r : ChanRefusal)
-    → IsRefusal (BarsBy chans q) (IsLimitBy chans q) q r → IsRefusal (Bars ds q) (IsLimit ds q) q r
+    → IsChanRefusal (BarsBy chans q) (IsLimitBy chans q) q r → IsChanRefusal (Bars ds q) (IsLimit ds q) q r
 refusal_moved ds chans q records channels r is = by_cases r is
   where
     missing : (s : ℕ) → IsCovered q.chan s → Same (BarsBy chans q Missing s) (Bars ds q Missing s)
@@ -207,7 +208,7 @@ refusal_moved ds chans q records channels r is = by_cases r is
         → BarsFirst (Bars ds q o) q.chan s
     first there has_rule o s = first_moved (BarsBy chans q o) (Bars ds q o) q.chan s (same there has_rule o)
 
-    by_cases : (r : ChanRefusal) → IsRefusal (BarsBy chans q) (IsLimitBy chans q) q r → IsRefusal (Bars ds q) (IsLimit ds q) q r
+    by_cases : (r : ChanRefusal) → IsChanRefusal (BarsBy chans q) (IsLimitBy chans q) q r → IsChanRefusal (Bars ds q) (IsLimit ds q) q r
     by_cases (LacksChannel s) is = first_moved (BarsBy chans q Missing) (Bars ds q Missing) q.chan s missing is
     by_cases (LacksWidth mhz) is = ((none_moved (BarsBy chans q Missing) (Bars ds q Missing) q.chan missing is.0.0, tt), is.1, is.2)
     by_cases (NoRule s) is = (

@@ -6,7 +6,7 @@ use Rattle.freq_range.proofs.Members.{Contains-head, Contains-later, Contains-ca
 use Rattle.rule_tables.specs.declared.domain.Domain.{Domain}
 use Rattle.rule_intersect.specs.Subchannels.{AreGoverning, SomeLacksRule}
 use Rattle.rule_intersect.specs.Tuples.{Choice}
-use Rattle.chan_flags.specs.ByRecords.{channel_at}
+use Rattle.chan_flags.specs.ByRecords.{chan_with_centre}
 use Rattle.chan_flags.specs.Lists.{AreChannels, IsRadioChannel}
 use Rattle.chan_flags.specs.Records.{fit_of, AreRecords, IsRecord}
 use Rattle.chan_flags.specs.Verdicts.{IsMissing}
@@ -15,14 +15,14 @@ use Rattle.chan_flags.specs.declared.record.Chan.{Chan}
 use Rattle.chan_flags.specs.declared.record.Fit.{Fit}
 
 -- what is found is a channel of the list, with this centre; and where nothing is found, none has it
-found_or_none : (chans : List Chan) (s : ℕ) → ((chan : Chan) × (channel_at chans s ≡ Some chan) × Contains chans chan × (chan.khz ≡ s))
-    ⊎ ((channel_at chans s ≡ None) × (Contains (map (λ c. c.khz) chans) s → ⊥))
+found_or_none : (chans : List Chan) (s : ℕ) → ((chan : Chan) × (chan_with_centre chans s ≡ Some chan) × Contains chans chan × (chan.khz ≡ s))
+    ⊎ ((chan_with_centre chans s ≡ None) × (Contains (map (λ c. c.khz) chans) s → ⊥))
 found_or_none [] s = inr (refl, λ has. Contains-nothing s has)
 found_or_none (c ∷ chans) s = elim (cases_Bool (c.khz == s)) [
-  | inl same ↦ inl (c, ap (λ b. cond b (Some c) (channel_at chans s)) same, Contains-head c chans, eqb-true c.khz s same)
+  | inl same ↦ inl (c, ap (λ b. cond b (Some c) (chan_with_centre chans s)) same, Contains-head c chans, eqb-true c.khz s same)
   | inr other ↦ elim (found_or_none chans s) [
-    | inl found ↦ inl (found.0, ap (λ b. cond b (Some c) (channel_at chans s)) other ∙ found.1, Contains-later c chans found.0 found.2, found.3)
-    | inr none ↦ inr (ap (λ b. cond b (Some c) (channel_at chans s)) other ∙ none.0, absent other none.1)
+    | inl found ↦ inl (found.0, ap (λ b. cond b (Some c) (chan_with_centre chans s)) other ∙ found.1, Contains-later c chans found.0 found.2, found.3)
+    | inr none ↦ inr (ap (λ b. cond b (Some c) (chan_with_centre chans s)) other ∙ none.0, absent other none.1)
   ]
 ]
   where
@@ -45,21 +45,21 @@ channel_with khz fit = record { khz = khz; fit = fit }
 
 -- the radio has no such channel
 abbrev pub IsAbsent : List Chan → Bands → ℕ → Type 0
-IsAbsent chans bands s = (channel_at chans s ≡ None) × IsMissing bands s
+IsAbsent chans bands s = (chan_with_centre chans s ≡ None) × IsMissing bands s
 
 -- it has the channel, and some domain has no rule for it
 abbrev pub IsRuleless : List Domain → List Chan → Bands → ℕ → Type 0
-IsRuleless ds chans bands s = (khz : ℕ) × (channel_at chans s ≡ Some (channel_with khz None)) × IsRadioChannel bands s × SomeLacksRule ds s
+IsRuleless ds chans bands s = (khz : ℕ) × (chan_with_centre chans s ≡ Some (channel_with khz None)) × IsRadioChannel bands s × SomeLacksRule ds s
 
 -- it has the channel, and each domain has a governing rule for it
 abbrev pub IsRuled : List Domain → List Chan → Bands → ℕ → Type 0
 IsRuled ds chans bands s =
-    (khz : ℕ) × (t : List Choice) × (channel_at chans s ≡ Some (channel_with khz (Some (fit_of t)))) × IsRadioChannel bands s × AreGoverning ds s t
+    (khz : ℕ) × (t : List Choice) × (chan_with_centre chans s ≡ Some (channel_with khz (Some (fit_of t)))) × IsRadioChannel bands s × AreGoverning ds s t
 
-known_record : (ds : List Domain) (chans : List Chan) (bands : Bands) (s khz : ℕ) (fit : Option Fit) → channel_at chans s ≡ Some (channel_with khz fit) → IsRadioChannel bands s
+known_record : (ds : List Domain) (chans : List Chan) (bands : Bands) (s khz : ℕ) (fit : Option Fit) → chan_with_centre chans s ≡ Some (channel_with khz fit) → IsRadioChannel bands s
     → IsRecord ds s fit → IsRuleless ds chans bands s ⊎ IsRuled ds chans bands s
 known_record ds chans bands s khz None at has lacks = inl (khz, at, has, lacks)
-known_record ds chans bands s khz (Some fit) at has (t, are, is) = inr (khz, t, subst (λ f. channel_at chans s ≡ Some (channel_with khz (Some f))) is at, has, are)
+known_record ds chans bands s khz (Some fit) at has (t, are, is) = inr (khz, t, subst (λ f. chan_with_centre chans s ≡ Some (channel_with khz (Some f))) is at, has, are)
 
 pub known : (ds : List Domain) (chans : List Chan) (bands : Bands) (s : ℕ) → AreRecords ds chans → AreChannels bands (map (λ c. c.khz) chans)
     → IsAbsent chans bands s ⊎ (IsRuleless ds chans bands s ⊎ IsRuled ds chans bands s)

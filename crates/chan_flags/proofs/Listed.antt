@@ -3,15 +3,15 @@ use Rattle.std.proofs.Common.{◌≡◌, ℕ, ◌+◌, ◌<◌, ◌≤◌, ◌�
 use Rattle.std.proofs.lemmas.Bool.{cases_lt}
 use Rattle.std.proofs.lemmas.List.Elements.{All-nil, All-push, All-weaker, Contains-append_left, Contains-push}
 use Rattle.std.proofs.lemmas.List.Quantifiers.{all_pairs_push}
-use Rattle.freq_range.specs.Channels.{IsChannel, IsStep}
+use Rattle.freq_range.specs.Channels.{IsChannel, IsStepOfFour}
 use Rattle.freq_range.specs.declared.channel.Band.{Band}
 use Rattle.freq_range.specs.declared.channel.Band.TheVariants.{Ghz2, Ghz5, Ghz6}
-use Rattle.chan_flags.specs.Listing.{place, IsChannelBefore, AreChannelsBefore}
+use Rattle.chan_flags.specs.inner.Listing.{place, IsChannelBefore, AreChannelsBefore}
 use Rattle.chan_flags.specs.Lists.{IsRadioChannel, AreChannels}
 use Rattle.chan_flags.specs.Profiles.{has_band}
 use Rattle.chan_flags.specs.declared.profile.Bands.{Bands}
 
-ghz5_most : (n : ℕ) → IsStep 36 64 n ⊎ (IsStep 100 144 n ⊎ IsStep 149 177 n) → n ≤ 177
+ghz5_most : (n : ℕ) → IsStepOfFour 36 64 n ⊎ (IsStepOfFour 100 144 n ⊎ IsStepOfFour 149 177 n) → n ≤ 177
 ghz5_most n (inl step) = let last = step.to_last in omega (arith, last)
 ghz5_most n (inr (inl step)) = let last = step.to_last in omega (arith, last)
 ghz5_most n (inr (inr step)) = step.to_last

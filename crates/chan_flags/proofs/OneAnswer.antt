@@ -3,9 +3,9 @@ use Rattle.std.proofs.Common.{◌≡◌, ℕ, ◌<◌, ◌≤◌, Option, Some, 
 use Rattle.std.proofs.lemmas.Bool.{cases_order}
 use Rattle.rule_tables.specs.declared.domain.Domain.{Domain}
 use Rattle.chan_def.specs.declared.definition.ChanDef.{ChanDef}
-use Rattle.chan_flags.specs.ByRecords.{channel_at, BarsBy, FitHas, IfFit, IsCheckLengthBy, IsLimitBy, IsVerdictBy}
+use Rattle.chan_flags.specs.ByRecords.{chan_with_centre, BarsBy, FitHas, IfFit, IsCheckLengthBy, IsLimitBy, IsVerdictBy}
 use Rattle.chan_flags.specs.Records.{fit_of, IsRecord}
-use Rattle.chan_flags.specs.Verdicts.{power_of, BarsFirst, BarsNone, HasWidth, IsAbove, IsCheckLength, IsLimit, IsVerdict, IsVerdictOf, IsWithin, Bars}
+use Rattle.chan_flags.specs.Verdicts.{power_of, BarsFirst, BarsNone, HasWidth, IsAbove, IsCheckLength, IsLimit, IsVerdict, IsVerdictOf, IsWithinLimit, Bars}
 use Rattle.chan_flags.specs.declared.asked.Asked.{Asked}
 use Rattle.chan_flags.specs.declared.asked.Obstacle.{Obstacle}
 use Rattle.chan_flags.specs.declared.asked.Obstacle.TheVariants.{Missing, Unruled, Narrow, OfdmBarred, IrBarred, OutdoorBarred}
@@ -65,7 +65,7 @@ limit_by-le : (chans : List Chan) (q : Asked) (a b : ℕ) → IsLimitBy chans q 
 limit_by-le chans q a b is other = elim other.least [
   | inl radio ↦ let most = is.radio in omega (arith, radio, most)
   | inr (s, covered, here) ↦
-      let found = both_of_fit (λ fit. b ≡ fit.limit_mbm) (λ fit. a ≤ fit.limit_mbm) (channel_at chans s) here (is.records s covered) in
+      let found = both_of_fit (λ fit. b ≡ fit.limit_mbm) (λ fit. a ≤ fit.limit_mbm) (chan_with_centre chans s) here (is.records s covered) in
       let same = found.1 in
       let most = found.2 in
       omega (arith, same, most)
@@ -81,7 +81,7 @@ length_by-le : (chans : List Chan) (q : Asked) (a b : ℕ) → IsCheckLengthBy c
 length_by-le chans q a b is other = elim is.greatest [
   | inl none ↦ omega (arith, none)
   | inr (s, covered, here) ↦
-      let found = both_of_fit (λ fit. IsTrue fit.flags.dfs × (a ≡ fit.check_ms)) (λ fit. IsTrue fit.flags.dfs → fit.check_ms ≤ b) (channel_at chans s) here (other.records s covered) in
+      let found = both_of_fit (λ fit. IsTrue fit.flags.dfs × (a ≡ fit.check_ms)) (λ fit. IsTrue fit.flags.dfs → fit.check_ms ≤ b) (chan_with_centre chans s) here (other.records s covered) in
       let same = found.1.1 in
       let least = found.2 found.1.0 in
       omega (arith, same, least)
@@ -93,7 +93,7 @@ IsCheckLengthBy-unique chans q a b is other =
     let from = length_by-le chans q b a other is in
     omega (arith, to, from)
 
-above_or_within : (setting : PowerSetting) (limit : ℕ) → IsAbove setting limit → IsWithin setting limit → ⊥
+above_or_within : (setting : PowerSetting) (limit : ℕ) → IsAbove setting limit → IsWithinLimit setting limit → ⊥
 above_or_within Auto limit above within = above
 above_or_within (Limit power) limit above within = above
 above_or_within (Fixed power) limit above within = omega (arith, above, within)
@@ -173,7 +173,7 @@ none_outdoor B L N q (Refused (AboveLimit limit)) later is = is.1.1.1.1.1.1.0
 none_outdoor B L N q (Fits power length) later is = is.none_bars.1.1.1.1.1.0
 none_outdoor B L N q (Refused r) later is = absurd (omega arith)
 
-within_limit : (B : Obstacle → ℕ → Type 0) (L N : ℕ → Type 0) (q : Asked) (v : Verdict) → 7 < place v → IsVerdictOf B L N q v → (limit : ℕ) × L limit × IsWithin q.setting limit
+within_limit : (B : Obstacle → ℕ → Type 0) (L N : ℕ → Type 0) (q : Asked) (v : Verdict) → 7 < place v → IsVerdictOf B L N q v → (limit : ℕ) × L limit × IsWithinLimit q.setting limit
 within_limit B L N q (Fits power length) later is = (is.limit, is.is_limit, is.within)
 within_limit B L N q (Refused r) later is = absurd (let most = refused-le r in omega (arith, most, later))
 
@@ -192,7 +192,7 @@ not_before B L N q one_limit (Refused (NoIr s)) w is other less = none_ir B L N 
 not_before B L N q one_limit (Refused (NoOutdoor s)) w is other less = none_outdoor B L N q w less other s is.2.covered is.2.here
 not_before B L N q one_limit (Refused (AboveLimit limit)) w is other less =
     let found = within_limit B L N q w less other in
-    above_or_within q.setting limit is.3 (subst (IsWithin q.setting) (one_limit found.0 limit found.1 is.2) found.2)
+    above_or_within q.setting limit is.3 (subst (IsWithinLimit q.setting) (one_limit found.0 limit found.1 is.2) found.2)
 not_before B L N q one_limit (Fits power length) w is other less = let most = place-le w in omega (arith, most, less)
 
 same_place : (B : Obstacle → ℕ → Type 0) (L N : ℕ → Type 0) (q : Asked) → ((a b : ℕ) → L a → L b → a ≡ b) → ((a b : ℕ) → N a → N b → a ≡ b) → (v w : Verdict)

@@ -7,7 +7,8 @@ use Rattle.std.proofs.lemmas.Bool.Decides.{nat_tests}
 use Rattle.std.proofs.lemmas.Cmp.{ranked}
 use Rattle.std.proofs.lemmas.List.{length-map, get_or-map}
 use Rattle.std.proofs.lemmas.List.Elements.{All-head, All-tail}
-use Rattle.chan_flags.specs.ByRecords.{channel_at, AreAscending}
+use Rattle.chan_flags.specs.inner.Listing.{AreAscending}
+use Rattle.chan_flags.specs.ByRecords.{chan_with_centre}
 use Rattle.chan_flags.specs.declared.record.Chan.{Chan}
 
 khz_below : (chans : List Chan) → AreAscending chans → (i j : ℕ) (d : Chan) → i < j → j < length chans → (get_or chans i d).khz < (get_or chans j d).khz
@@ -31,26 +32,26 @@ comparisons_rise chans k up i j d order in_range = index_rises (get_or chans i d
       | inr (inr more) ↦ absurd (omega (arith, order, more))
     ]
 
-skip : (c : Chan) (chans : List Chan) (s : ℕ) → (c.khz ≡ s → ⊥) → channel_at (c ∷ chans) s ≡ channel_at chans s
+skip : (c : Chan) (chans : List Chan) (s : ℕ) → (c.khz ≡ s → ⊥) → chan_with_centre (c ∷ chans) s ≡ chan_with_centre chans s
 skip c chans s other = elim (cases_Bool (c.khz == s)) [
   | inl same ↦ absurd (other (eqb-true c.khz s same))
-  | inr differs ↦ ap (λ b. cond b (Some c) (channel_at chans s)) differs
+  | inr differs ↦ ap (λ b. cond b (Some c) (chan_with_centre chans s)) differs
 ]
 
 channel_at-here : (chans : List Chan) (s i : ℕ) → ((k : ℕ) (d : Chan) → k < i → (get_or chans k d).khz ≡ s → ⊥) → i < length chans → ((d : Chan) → (get_or chans i d).khz ≡ s)
-    → channel_at chans s ≡ slice_get chans i
+    → chan_with_centre chans s ≡ slice_get chans i
 channel_at-here [] s i none in_range here = absurd (omega arith)
-channel_at-here (c ∷ chans) s zero none in_range here = ap (λ b. cond b (Some c) (channel_at chans s)) (eq-eqb c.khz s (here c))
+channel_at-here (c ∷ chans) s zero none in_range here = ap (λ b. cond b (Some c) (chan_with_centre chans s)) (eq-eqb c.khz s (here c))
 channel_at-here (c ∷ chans) s (suc i) none in_range here =
     skip c chans s (none 0 c (omega arith)) ∙ channel_at-here chans s i (λ k d below. none (suc k) d (omega (arith, below))) (omega arith) here
 
-channel_at-nowhere : (chans : List Chan) (s : ℕ) → All (λ c. c.khz ≡ s → ⊥) chans → channel_at chans s ≡ None
+channel_at-nowhere : (chans : List Chan) (s : ℕ) → All (λ c. c.khz ≡ s → ⊥) chans → chan_with_centre chans s ≡ None
 channel_at-nowhere [] s none = refl
 channel_at-nowhere (c ∷ chans) s none =
     skip c chans s (All-head (λ x. x.khz ≡ s → ⊥) c chans none) ∙ channel_at-nowhere chans s (All-tail (λ x. x.khz ≡ s → ⊥) c chans none)
 
 pub searched : (chans : List Chan) (s : ℕ) (r : Result ℕ ℕ) → AreAscending chans → IsSearchInRange r (length chans) → IsBinarySearchResult (λ c. nat_cmp c.khz s) chans r
-    → MatchResult r (λ i. channel_at chans s ≡ slice_get chans i) (λ _. channel_at chans s ≡ None)
+    → MatchResult r (λ i. chan_with_centre chans s ≡ slice_get chans i) (λ _. chan_with_centre chans s ≡ None)
 searched chans s (Ok i) up in_range equal = channel_at-here chans s i earlier in_range here
   where
     here : (d : Chan) → (get_or chans i d).khz ≡ s

@@ -1,7 +1,7 @@
 -- Whether the channel table has a channel in one of the bands.
 use Rattle.std.proofs.Common.{◌≡◌, ℕ, zero, suc, ◌+◌, ◌-◌, ◌*◌, ◌%◌, ◌<◌, ◌≤◌, ◌⊎◌, Bool, IsTrue, arith, subst, sym, ◌∙◌, inl, inr}
 use Rattle.std.proofs.lemmas.Bool.{cases_Bool, cases_eq, cases_lt, true≢false}
-use Rattle.freq_range.specs.Channels.{IsChannel, IsStep}
+use Rattle.freq_range.specs.Channels.{IsChannel, IsStepOfFour}
 use Rattle.freq_range.specs.declared.channel.Band.{Band}
 use Rattle.freq_range.specs.declared.channel.Band.TheVariants.{Ghz2, Ghz5, Ghz6}
 use Rattle.freq_range.proofs.Deciding.{Told, told_as, told_both, told_le}
@@ -19,7 +19,7 @@ told_either p q = elim p [
   ]
 ]
 
-told_step : (first last n : ℕ) → Told (IsStep first last n)
+told_step : (first last n : ℕ) → Told (IsStepOfFour first last n)
 told_step first last n = told_as
     (λ parts. record { from_first = parts.0; to_last = parts.1.0; by_four = parts.1.1 })
     (λ step. (step.from_first, (step.to_last, step.by_four)))

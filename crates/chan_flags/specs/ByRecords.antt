@@ -1,5 +1,5 @@
 -- Whether the records of a radio's channels allow a channel.
-use Rattle.std.specs.Prelude.{◌≡◌, ℕ, ◌==◌, ◌<◌, ◌≤◌, ◌⊎◌, List, find, map, AllPairs, false, Option, None, Some, IfSome, IsNone, IsSomeAnd, IsTrue}
+use Rattle.std.specs.Prelude.{◌≡◌, ℕ, ◌==◌, ◌<◌, ◌≤◌, ◌⊎◌, List, find, false, Option, None, Some, IfSome, IsNone, IsSomeAnd, IsTrue}
 use Rattle.chan_def.specs.Covered.{width_khz, IsCovered}
 use Rattle.chan_def.specs.Kinds.{initiates}
 use Rattle.chan_flags.specs.Verdicts.{IsVerdictOf}
@@ -10,13 +10,9 @@ use Rattle.chan_flags.specs.declared.record.Chan.{Chan}
 use Rattle.chan_flags.specs.declared.record.Fit.{Fit}
 use Rattle.chan_flags.specs.declared.verdict.Verdict.{Verdict}
 
--- each centre is above the one before
-abbrev pub AreAscending : List Chan → Type 0
-AreAscending chans = AllPairs (λ low high. low < high) (map (λ chan. chan.khz) chans)
-
 -- the radio's channel with this centre, in kHz
-abbrev pub channel_at : List Chan → ℕ → Option Chan
-channel_at chans s = find (λ chan. chan.khz == s) chans
+abbrev pub chan_with_centre : List Chan → ℕ → Option Chan
+chan_with_centre chans s = find (λ chan. chan.khz == s) chans
 
 -- the radio has the channel, and it has no record
 abbrev pub IsUnfit : Option Chan → Type 0
@@ -43,22 +39,22 @@ BarsChannel q IrBarred chan = IsTrue (initiates q.kind) × FitHas (λ fit. IsTru
 BarsChannel q OutdoorBarred chan = IsTrue (initiates q.kind) × (q.indoor ≡ false) × FitHas (λ fit. IsTrue fit.flags.no_outdoor) chan
 
 abbrev pub BarsBy : List Chan → Asked → Obstacle → ℕ → Type 0
-BarsBy chans q obstacle s = BarsChannel q obstacle (channel_at chans s)
+BarsBy chans q obstacle s = BarsChannel q obstacle (chan_with_centre chans s)
 
 -- the channel has a record with DFS
 abbrev pub IsBoundBy : List Chan → ℕ → Type 0
-IsBoundBy chans s = FitHas (λ fit. IsTrue fit.flags.dfs) (channel_at chans s)
+IsBoundBy chans s = FitHas (λ fit. IsTrue fit.flags.dfs) (chan_with_centre chans s)
 
 -- the limit, in mBm, is the least of the radio's power and the limits of the records of all subchannels
 pub record IsLimitBy (chans : List Chan) (q : Asked) (limit : ℕ) : Type 0 where
   pub radio : limit ≤ q.profile.power_mbm
-  pub records : (s : ℕ) → IsCovered q.chan s → IfFit (λ fit. limit ≤ fit.limit_mbm) (channel_at chans s)
-  pub least : (limit ≡ q.profile.power_mbm) ⊎ ((s : ℕ) × IsCovered q.chan s × FitHas (λ fit. limit ≡ fit.limit_mbm) (channel_at chans s))
+  pub records : (s : ℕ) → IsCovered q.chan s → IfFit (λ fit. limit ≤ fit.limit_mbm) (chan_with_centre chans s)
+  pub least : (limit ≡ q.profile.power_mbm) ⊎ ((s : ℕ) × IsCovered q.chan s × FitHas (λ fit. limit ≡ fit.limit_mbm) (chan_with_centre chans s))
 
 -- the length, in ms, is that of the longest check among the records with DFS of all subchannels, or 0 where none has it
 pub record IsCheckLengthBy (chans : List Chan) (q : Asked) (length : ℕ) : Type 0 where
-  pub records : (s : ℕ) → IsCovered q.chan s → IfFit (λ fit. IsTrue fit.flags.dfs → fit.check_ms ≤ length) (channel_at chans s)
-  pub greatest : (length ≡ 0) ⊎ ((s : ℕ) × IsCovered q.chan s × FitHas (λ fit. IsTrue fit.flags.dfs × (length ≡ fit.check_ms)) (channel_at chans s))
+  pub records : (s : ℕ) → IsCovered q.chan s → IfFit (λ fit. IsTrue fit.flags.dfs → fit.check_ms ≤ length) (chan_with_centre chans s)
+  pub greatest : (length ≡ 0) ⊎ ((s : ℕ) × IsCovered q.chan s × FitHas (λ fit. IsTrue fit.flags.dfs × (length ≡ fit.check_ms)) (chan_with_centre chans s))
 
 -- the verdict of the records
 abbrev pub IsVerdictBy : List Chan → Asked → Verdict → Type 0

@@ -5,7 +5,7 @@ use Rattle.chan_def.specs.Covered.{width_khz, IsCovered}
 use Rattle.chan_def.specs.Kinds.{initiates}
 use Rattle.rule_intersect.specs.Tuples.{Choice}
 use Rattle.chan_flags.specs.Lists.{IsRadioChannel}
-use Rattle.chan_flags.specs.Verdicts.{power_of, HasWidth, IsGoverning, IsCheckLength, IsLimit, IsWithin}
+use Rattle.chan_flags.specs.Verdicts.{power_of, HasWidth, IsGoverning, IsCheckLength, IsLimit, IsWithinLimit}
 use Rattle.chan_flags.specs.declared.asked.Asked.{Asked}
 
 -- the governing rule allows what is asked, with this power in mBm
@@ -24,11 +24,11 @@ pub record IsFitting (ds : List Domain) (q : Asked) (mbm : ℕ) : Type 0 where
   pub rules : (s : ℕ) (d : Domain) → IsCovered q.chan s → Contains ds d → (g : Choice) × IsGoverning d s g × FitsRule q mbm g
 
 -- what is asked fits with the power of its setting, in mBm, a fixed power is at most the limit, and this is the length of the
--- check for radar, in ms
+-- check for radar (CAC, channel availability check), in ms
 pub record IsGranting (ds : List Domain) (q : Asked) (mbm ms : ℕ) : Type 0 where
   pub fitting : IsFitting ds q mbm
   pub limit : ℕ
   pub is_limit : IsLimit ds q limit
-  pub within : IsWithin q.setting limit
+  pub within : IsWithinLimit q.setting limit
   pub power_is : mbm ≡ power_of q.setting limit
   pub length_is : IsCheckLength ds q ms

@@ -1,7 +1,7 @@
 pub mod ByRecords
 pub mod Fits
-pub mod Listing
 pub mod Lists
 pub mod Profiles
 pub mod Records
 pub mod Verdicts
+pub mod inner

@@ -14,7 +14,7 @@ abbrev pub has_some : Bands → Bool
 has_some bands = bands.ghz2 || bands.ghz5 || bands.ghz6
 
 -- What contracts see of a profile: its bands, its greatest width and its greatest width on a channel that is checked for
--- radar, in MHz, its greatest power in mBm, on how many channels it can be at once, whether it takes no rules but its own,
+-- radar, in MHz, its greatest power in mBm, on how many channels it can be at once, whether it is self-managed,
 -- and whether it ignores country elements.
 pub record Abilities : Type 0 where
   pub bands : Bands

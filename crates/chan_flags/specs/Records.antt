@@ -8,8 +8,8 @@ use Rattle.chan_flags.specs.Profiles.{Abilities}
 use Rattle.chan_flags.specs.declared.record.Chan.{Chan}
 use Rattle.chan_flags.specs.declared.record.Fit.{Fit}
 
--- What these rules allow together: their flags without AUTO-BW, the least power, the longest check for radar among the rules
--- with DFS (0 where none has it), and the least of the widths that they allow in their own domains.
+-- What these rules allow together: their flags without AUTO-BW, the least power, the longest check for radar (CAC)
+-- among the rules with DFS (0 where none has it), and the least of the widths that they allow in their own domains.
 abbrev pub fit_of : List Choice → Fit
 fit_of t = record {
   flags = record {

@@ -64,7 +64,7 @@ Bars ds q OfdmBarred s = IsOfdmBarred ds q s
 Bars ds q IrBarred s = IsIrBarred ds q s
 Bars ds q OutdoorBarred s = IsOutdoorBarred ds q s
 
--- some rule has DFS: the subchannel has to be checked for radar
+-- some rule has DFS: the subchannel has to be checked for radar (CAC, channel availability check)
 abbrev pub IsBound : List Domain → ℕ → Type 0
 IsBound ds s = SomeGoverning (λ g. IsTrue g.rule.flags.dfs) ds s
 
@@ -101,10 +101,10 @@ abbrev pub HasWidth : Asked → Type 0
 HasWidth q = width_khz q.chan.width ≤ q.profile.width_mhz * 1000
 
 -- the power that is set is one that a limit allows: a fixed one is refused where it is above it
-abbrev pub IsWithin : PowerSetting → ℕ → Type 0
-IsWithin Auto limit = Unit {0}
-IsWithin (Limit power) limit = Unit {0}
-IsWithin (Fixed power) limit = power ≤ limit
+abbrev pub IsWithinLimit : PowerSetting → ℕ → Type 0
+IsWithinLimit Auto limit = Unit {0}
+IsWithinLimit (Limit power) limit = Unit {0}
+IsWithinLimit (Fixed power) limit = power ≤ limit
 
 abbrev pub IsAbove : PowerSetting → ℕ → Type 0
 IsAbove Auto limit = ⊥
@@ -119,18 +119,18 @@ power_of (Fixed power) limit = power
 
 -- Which refusal comes: the first obstacle that bars a subchannel, with the lowest one that it bars. The width that the radio
 -- lacks is asked after its channels, and a fixed power last.
-abbrev pub IsRefusal : (Obstacle → ℕ → Type 0) → (ℕ → Type 0) → Asked → ChanRefusal → Type 0
-IsRefusal bars limits q (LacksChannel s) = BarsFirst (bars Missing) q.chan s
-IsRefusal bars limits q (LacksWidth mhz) =
+abbrev pub IsChanRefusal : (Obstacle → ℕ → Type 0) → (ℕ → Type 0) → Asked → ChanRefusal → Type 0
+IsChanRefusal bars limits q (LacksChannel s) = BarsFirst (bars Missing) q.chan s
+IsChanRefusal bars limits q (LacksWidth mhz) =
     NoneBars bars q.chan (Missing ∷ []) × (q.profile.width_mhz * 1000 < width_khz q.chan.width) × (mhz * 1000 ≡ width_khz q.chan.width)
-IsRefusal bars limits q (NoRule s) = HasWidth q × NoneBars bars q.chan (Missing ∷ []) × BarsFirst (bars Unruled) q.chan s
-IsRefusal bars limits q (TooNarrow s) = HasWidth q × NoneBars bars q.chan (Missing ∷ Unruled ∷ []) × BarsFirst (bars Narrow) q.chan s
-IsRefusal bars limits q (NoOfdm s) = HasWidth q × NoneBars bars q.chan (Missing ∷ Unruled ∷ Narrow ∷ []) × BarsFirst (bars OfdmBarred) q.chan s
-IsRefusal bars limits q (NoIr s) =
+IsChanRefusal bars limits q (NoRule s) = HasWidth q × NoneBars bars q.chan (Missing ∷ []) × BarsFirst (bars Unruled) q.chan s
+IsChanRefusal bars limits q (TooNarrow s) = HasWidth q × NoneBars bars q.chan (Missing ∷ Unruled ∷ []) × BarsFirst (bars Narrow) q.chan s
+IsChanRefusal bars limits q (NoOfdm s) = HasWidth q × NoneBars bars q.chan (Missing ∷ Unruled ∷ Narrow ∷ []) × BarsFirst (bars OfdmBarred) q.chan s
+IsChanRefusal bars limits q (NoIr s) =
     HasWidth q × NoneBars bars q.chan (Missing ∷ Unruled ∷ Narrow ∷ OfdmBarred ∷ []) × BarsFirst (bars IrBarred) q.chan s
-IsRefusal bars limits q (NoOutdoor s) =
+IsChanRefusal bars limits q (NoOutdoor s) =
     HasWidth q × NoneBars bars q.chan (Missing ∷ Unruled ∷ Narrow ∷ OfdmBarred ∷ IrBarred ∷ []) × BarsFirst (bars OutdoorBarred) q.chan s
-IsRefusal bars limits q (AboveLimit limit) =
+IsChanRefusal bars limits q (AboveLimit limit) =
     HasWidth q × NoneBars bars q.chan (Missing ∷ Unruled ∷ Narrow ∷ OfdmBarred ∷ IrBarred ∷ OutdoorBarred ∷ []) × limits limit × IsAbove q.setting limit
 
 -- a channel that is allowed, with its power and the length of its check for radar: no refusal comes
@@ -139,12 +139,12 @@ pub record IsAllowed (bars : Obstacle → ℕ → Type 0) (limits lengths : ℕ 
   pub none_bars : NoneBars bars q.chan (Missing ∷ Unruled ∷ Narrow ∷ OfdmBarred ∷ IrBarred ∷ OutdoorBarred ∷ [])
   pub limit : ℕ
   pub is_limit : limits limit
-  pub within : IsWithin q.setting limit
+  pub within : IsWithinLimit q.setting limit
   pub power_is : power ≡ power_of q.setting limit
   pub length_is : lengths length
 
 abbrev pub IsVerdictOf : (Obstacle → ℕ → Type 0) → (ℕ → Type 0) → (ℕ → Type 0) → Asked → Verdict → Type 0
-IsVerdictOf bars limits lengths q (Refused refusal) = IsRefusal bars limits q refusal
+IsVerdictOf bars limits lengths q (Refused refusal) = IsChanRefusal bars limits q refusal
 IsVerdictOf bars limits lengths q (Fits power length) = IsAllowed bars limits lengths q power length
 
 -- the verdict of the governing rules of all domains of the list

@@ -3,20 +3,18 @@
 ghost use Rattle.std.specs.Prelude.{◌≡◌, ◌↔◌, IsTrue, MatchOption, Some};
 ghost use Rattle.std.specs.Option.{option_copied};
 ghost use Rattle.chan_def.specs.Covered.{IsValidDef};
-ghost use Rattle.chan_flags.specs.ByRecords.{channel_at, AreAscending, BarsBy, BarsChannel};
+ghost use Rattle.chan_flags.specs.inner.Listing.{AreAscending};
+ghost use Rattle.chan_flags.specs.ByRecords.{chan_with_centre, BarsBy, BarsChannel};
 ghost use Rattle.chan_flags.specs.Verdicts.{BarsFirst, BarsNone};
 
 use crate::asked::{Asked, Obstacle};
 use crate::record::{Chan, Fit};
-use chan_def::subchannels;
-
-/// The most subchannels that a channel covers.
-pub const MOST_SUBCHANNELS: u8 = 8;
+use chan_def::{MOST_SUBCHANNELS, subchannels};
 
 /// The radio's channel with this centre, in kHz.
 pub fn channel_at(chans: &[Chan], khz: u32) -> Option<&Chan>
     requires { AreAscending chans.now }
-    ensures { option_copied result ≡ channel_at chans.now khz }
+    ensures { option_copied result ≡ chan_with_centre chans.now khz }
 {
     match chans.binary_search_by_key(&khz, |chan| chan.khz) {
         Ok(place) => Some(&chans[place]),

@@ -2,11 +2,12 @@
 
 ghost use Rattle.std.specs.Prelude.{◌≡◌, None, All, IfOk, OnOk, map};
 ghost use Rattle.chan_flags.specs.Lists.{AreChannels};
-ghost use Rattle.chan_flags.specs.Listing.{AreChannelsBefore, place};
+ghost use Rattle.chan_flags.specs.inner.Listing.{AreChannelsBefore, place};
 
 use crate::profile::Bands;
 use crate::record::Chan;
-use freq_range::{Band, OutOfMemory, channel_khz};
+use freq_range::{Band, channel_khz};
+use reg_lists::OutOfMemory;
 use std::alloc::Global;
 
 /// The channels of the channel table: 14 in 2.4 GHz, 28 in 5 GHz and 59 in 6 GHz.

@@ -1,9 +1,10 @@
 //! The verdict of the records of a radio's channels.
 
-ghost use Rattle.std.specs.Prelude.{◌≡◌, ◌*◌, [], ◌∷◌, MatchOption};
-ghost use Rattle.chan_def.specs.Covered.{width_khz, IsValidDef};
-ghost use Rattle.chan_flags.specs.ByRecords.{AreAscending, BarsBy, IsLimitBy, IsVerdictBy};
-ghost use Rattle.chan_flags.specs.Verdicts.{power_of, HasWidth, IsAbove, IsRefusal, IsWithin, NoneBars};
+ghost use Rattle.std.specs.Prelude.{◌≡◌, [], ◌∷◌, MatchOption};
+ghost use Rattle.chan_def.specs.Covered.{IsValidDef};
+ghost use Rattle.chan_flags.specs.inner.Listing.{AreAscending};
+ghost use Rattle.chan_flags.specs.ByRecords.{BarsBy, IsLimitBy, IsVerdictBy};
+ghost use Rattle.chan_flags.specs.Verdicts.{power_of, HasWidth, IsAbove, IsChanRefusal, IsWithinLimit, NoneBars};
 ghost use Rattle.chan_flags.specs.declared.asked.Obstacle.TheVariants.{Missing, Unruled, Narrow, OfdmBarred, IrBarred, OutdoorBarred};
 
 use crate::asked::{Asked, Obstacle};
@@ -11,19 +12,6 @@ use crate::barred::lowest_barred;
 use crate::limits::{check_ms_by, limit_mbm_by};
 use crate::record::Chan;
 use crate::verdict::{ChanRefusal, PowerSetting, Verdict};
-use chan_def::Width;
-
-/// The width in MHz.
-fn width_mhz(width: Width) -> u16
-    ensures { result * 1000 ≡ width_khz width }
-{
-    match width {
-        Width::Noht | Width::W20 => 20,
-        Width::W40 => 40,
-        Width::W80 => 80,
-        Width::W160 => 160,
-    }
-}
 
 /// The refusal for what the radio lacks.
 fn radio_refusal(chans: &[Chan], asked: &Asked) -> Option<ChanRefusal>
@@ -31,13 +19,13 @@ fn radio_refusal(chans: &[Chan], asked: &Asked) -> Option<ChanRefusal>
     requires ascending { AreAscending chans.now }
     ensures { MatchOption result
         (HasWidth asked.now × NoneBars (BarsBy chans.now asked.now) asked.now.chan (Missing ∷ []))
-        (IsRefusal (BarsBy chans.now asked.now) (IsLimitBy chans.now asked.now) asked.now) }
+        (IsChanRefusal (BarsBy chans.now asked.now) (IsLimitBy chans.now asked.now) asked.now) }
 {
     if let Some(khz) = lowest_barred(chans, asked, Obstacle::Missing) {
         return Some(ChanRefusal::LacksChannel(khz));
     }
     if asked.chan.width.khz() > u32::from(asked.profile.width_mhz()) * 1000 {
-        return Some(ChanRefusal::LacksWidth(width_mhz(asked.chan.width)));
+        return Some(ChanRefusal::LacksWidth(asked.chan.width.mhz()));
     }
     None
 }
@@ -50,7 +38,7 @@ fn width_refusal(chans: &[Chan], asked: &Asked) -> Option<ChanRefusal>
     requires none_bars { NoneBars (BarsBy chans.now asked.now) asked.now.chan (Missing ∷ []) }
     ensures { MatchOption result
         (NoneBars (BarsBy chans.now asked.now) asked.now.chan (Missing ∷ Unruled ∷ Narrow ∷ []))
-        (IsRefusal (BarsBy chans.now asked.now) (IsLimitBy chans.now asked.now) asked.now) }
+        (IsChanRefusal (BarsBy chans.now asked.now) (IsLimitBy chans.now asked.now) asked.now) }
 {
     if let Some(khz) = lowest_barred(chans, asked, Obstacle::Unruled) {
         return Some(ChanRefusal::NoRule(khz));
@@ -69,7 +57,7 @@ fn flag_refusal(chans: &[Chan], asked: &Asked) -> Option<ChanRefusal>
     requires none_bars { NoneBars (BarsBy chans.now asked.now) asked.now.chan (Missing ∷ Unruled ∷ Narrow ∷ []) }
     ensures { MatchOption result
         (NoneBars (BarsBy chans.now asked.now) asked.now.chan (Missing ∷ Unruled ∷ Narrow ∷ OfdmBarred ∷ IrBarred ∷ OutdoorBarred ∷ []))
-        (IsRefusal (BarsBy chans.now asked.now) (IsLimitBy chans.now asked.now) asked.now) }
+        (IsChanRefusal (BarsBy chans.now asked.now) (IsLimitBy chans.now asked.now) asked.now) }
 {
     if let Some(khz) = lowest_barred(chans, asked, Obstacle::OfdmBarred) {
         return Some(ChanRefusal::NoOfdm(khz));
@@ -86,7 +74,7 @@ fn flag_refusal(chans: &[Chan], asked: &Asked) -> Option<ChanRefusal>
 /// The power, in mBm, that the setting gives under the limit. `None` where a fixed power is above it.
 fn power_under(setting: PowerSetting, limit_mbm: u16) -> Option<u16>
     ensures { MatchOption result (IsAbove setting limit_mbm)
-        (λ power. IsWithin setting limit_mbm × (power ≡ power_of setting limit_mbm)) }
+        (λ power. IsWithinLimit setting limit_mbm × (power ≡ power_of setting limit_mbm)) }
 {
     match setting {
         PowerSetting::Auto => Some(limit_mbm),

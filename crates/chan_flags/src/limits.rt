@@ -1,14 +1,16 @@
-//! The greatest power and the longest check for radar, by the records of a radio's channels.
+//! The greatest power and the longest check for radar (CAC, channel availability check), by the
+//! records of a radio's channels.
 
 ghost use Rattle.std.specs.Prelude.{◌≡◌, ◌≤◌, ◌⊎◌, ◌↔◌, IsTrue};
 ghost use Rattle.std.specs.Option.{option_copied};
 ghost use Rattle.chan_def.specs.Covered.{IsValidDef};
-ghost use Rattle.chan_flags.specs.ByRecords.{AreAscending, FitHas, IfFit, IsBoundBy, IsCheckLengthBy, IsLimitBy};
+ghost use Rattle.chan_flags.specs.inner.Listing.{AreAscending};
+ghost use Rattle.chan_flags.specs.ByRecords.{FitHas, IfFit, IsBoundBy, IsCheckLengthBy, IsLimitBy};
 
 use crate::asked::Asked;
-use crate::barred::{MOST_SUBCHANNELS, channel_at};
+use crate::barred::channel_at;
 use crate::record::Chan;
-use chan_def::subchannels;
+use chan_def::{MOST_SUBCHANNELS, subchannels};
 
 /// The lesser of the limit and that of the channel's record, if there is one, in mBm.
 fn lesser_limit(limit_mbm: u16, chan: Option<&Chan>) -> u16

@@ -69,7 +69,7 @@ fn is_width(mhz: u16) -> bool
 impl Profile {
     /// A radio with these bands, its greatest width, its greatest width on a channel that is checked
     /// for radar (0 where it can't check), both in MHz, its greatest power in mBm, how many channels
-    /// it can be on at once, whether it takes no rules but its own, and whether it ignores country
+    /// it can be on at once, whether it is self-managed, and whether it ignores country
     /// elements. `None` exactly where there is no band, a width is none of 20, 40, 80 and 160, or it
     /// can't be on 1 to 8 channels at once.
     pub fn new(
@@ -118,7 +118,7 @@ impl Profile {
         self.width_mhz
     }
 
-    /// Its greatest width, in MHz, on a channel that is checked for radar, 0 where it can't check.
+    /// Its greatest width, in MHz, on a channel that is checked for radar (CAC), 0 where it can't check.
     pub fn radar_mhz(&self) -> u16
         ensures radar { result ≡ self.now.radar_mhz }
         ensures known { IsTrue (result == 0 || is_width result) }
@@ -142,7 +142,7 @@ impl Profile {
         self.contexts
     }
 
-    /// Whether it takes no rules but its own (`REGULATORY_WIPHY_SELF_MANAGED`).
+    /// Whether it is self-managed: no regdom but its own applies (`REGULATORY_WIPHY_SELF_MANAGED`).
     pub fn self_managed(&self) -> bool
         ensures { result ≡ self.now.self_managed }
     {

@@ -10,9 +10,6 @@ ghost use Rattle.chan_flags.specs.Lists.{AreChannels};
 ghost use Rattle.chan_flags.specs.Records.{AreRecords, IsRecord, IsRowFit};
 ghost use Rattle.chan_flags.specs.Verdicts.{asked, IsBound, IsMissing, IsVerdict};
 
-#[cfg(test)]
-mod tests;
-
 use crate::asked::Asked;
 use crate::channels::channels_of;
 use crate::judge::verdict_by;
@@ -21,7 +18,7 @@ use crate::profile::Profile;
 use crate::record::{Chan, Fit};
 use crate::verdict::{PowerSetting, Verdict};
 use chan_def::{ChanDef, Kind};
-use freq_range::OutOfMemory;
+use reg_lists::OutOfMemory;
 use rule_intersect::Table;
 use std::alloc::Global;
 use std::marker::Model;
@@ -112,7 +109,8 @@ impl RadioChans {
         verdict_by(self.chans.as_slice(), &asked)
     }
 
-    /// Whether the channel with this centre, in kHz, has to be checked for radar. False where it has no
+    /// Whether the channel with this centre, in kHz, has to be checked for radar (CAC, channel
+    /// availability check). False where it has no
     /// record.
     pub fn is_bound(&self, khz: u32) -> bool
         ensures record { IsTrue result ↔ IsBoundBy self.now.chans khz }

@@ -9,7 +9,8 @@ pub struct Fit {
     pub flags: RuleFlags,
     /// The greatest power, in mBm (EIRP).
     pub limit_mbm: u16,
-    /// How long the channel is checked for radar, in ms, or 0 where no rule has DFS.
+    /// How long the channel is checked for radar (CAC, channel availability check), in ms, or 0 where
+    /// no rule has DFS.
     pub check_ms: u32,
     /// The greatest width, in kHz, of a channel that has this one in it.
     pub width_khz: u32,

@@ -39,7 +39,7 @@ pub enum Verdict {
     Fits {
         /// With this power, in mBm (EIRP).
         power_mbm: u16,
-        /// After a check for radar of this length, in ms, or 0 where no subchannel asks for one.
+        /// After a check for radar (CAC) of this length, in ms, or 0 where no subchannel asks for one.
         check_ms: u32,
     },
     /// They don't.

@@ -9,7 +9,7 @@ use Rattle.rule_tables.specs.FileFormat.{u8_at, DropsRepeats, RuleAt, RulesAt, p
 use Rattle.rule_tables.specs.FileFaults.{HasRegion, IsCollectionFault, IsFaultyRule, rule_place}
 use Rattle.rule_tables.specs.declared.code.Alpha2.{Alpha2}
 use Rattle.rule_tables.specs.declared.file_fault.DbFault.{DbFault}
-use Rattle.db_reader.specs.Parts.{AreFirstRules, IsCollectionStop, IsPushedNew, IsRuleStop, IsRulesFault, IsRulesStop, rule_fault}
+use Rattle.db_reader.specs.inner.Parts.{AreFirstRules, IsCollectionStop, IsPushedNew, IsRuleStop, IsRulesFault, IsRulesStop, rule_fault}
 use Rattle.db_reader.specs.declared.fault.ReadFault.{ReadFault}
 use Rattle.db_reader.specs.declared.fault.ReadFault.TheVariants.{Bad, OutOfMemory}
 use Rattle.db_reader.specs.declared.rule_record.RuleStop.{RuleStop}

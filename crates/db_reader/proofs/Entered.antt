@@ -7,10 +7,10 @@ use Rattle.rule_tables.proofs.InOrder.{All-insert, Contains-insert, Contains-ins
 use Rattle.rule_tables.specs.Code.{IsCode, key}
 use Rattle.rule_tables.specs.Databases.{HasCode, Inserts}
 use Rattle.rule_tables.specs.FileFormat.{u16_at, AreEntries, CollectionAt, EndsAt, EntryAt, entry_place, target_at}
-use Rattle.rule_tables.specs.FileFaults.{HasEntryFault, IsCollectionFault, IsInList, IsTwice, code_at}
+use Rattle.rule_tables.specs.FileFaults.{HasEntryFault, IsCollectionFault, IsInList, IsTwice, entry_code}
 use Rattle.rule_tables.specs.declared.code.Alpha2.{Alpha2}
 use Rattle.rule_tables.specs.declared.domain.Domain.{Domain}
-use Rattle.db_reader.specs.Parts.{IsCollectionStop, IsEntriesStop, IsEntryStop, IsNewEntry}
+use Rattle.db_reader.specs.inner.Parts.{IsCollectionStop, IsEntriesStop, IsEntryStop, IsNewEntry}
 use Rattle.db_reader.specs.declared.fault.ReadFault.{ReadFault}
 use Rattle.db_reader.specs.declared.fault.ReadFault.TheVariants.{Bad, OutOfMemory}
 use Rattle.db_reader.proofs.Records.{code_is, good_entry, is_domain}
@@ -18,18 +18,18 @@ use Rattle.db_reader.proofs.Records.{code_is, good_entry, is_domain}
 -- ---- codes as numbers
 
 -- the two bytes at a place, read as a number, are the key of their code
-pub key_at : (b : List ℕ) (i : ℕ) → u16_at b i ≡ key (code_at b i)
+pub key_at : (b : List ℕ) (i : ℕ) → u16_at b i ≡ key (entry_code b i)
 key_at b i = let next : suc i ≡ i + 1 = sym (add-one i) in rw next (omega arith)
 
 -- where a domain of the entries has the code of the next entry, that one is there twice
-pub twice_from_code : (b : List ℕ) (k : ℕ) (ds : List Domain) (c : Alpha2) → AreEntries b k ds → c ≡ code_at b (entry_place k) → HasCode ds c → IsTwice b k
+pub twice_from_code : (b : List ℕ) (k : ℕ) (ds : List Domain) (c : Alpha2) → AreEntries b k ds → c ≡ entry_code b (entry_place k) → HasCode ds c → IsTwice b k
 twice_from_code b k ds c are at (d, among, is) =
     let (j, below, entry) = All-contains (λ e. (n : ℕ) × (n < k) × EntryAt b (entry_place n) e) ds d are.all among in
-    let one : code_at b (entry_place j) ≡ code_at b (entry_place k) = sym (code_is b (entry_place j) d entry) ∙ is ∙ at in
+    let one : entry_code b (entry_place j) ≡ entry_code b (entry_place k) = sym (code_is b (entry_place j) d entry) ∙ is ∙ at in
     (j, below, key_at b (entry_place j) ∙ ap key one ∙ sym (key_at b (entry_place k)))
 
 -- where the next entry is there twice, a domain of the entries has its code
-pub code_from_twice : (b : List ℕ) (k : ℕ) (ds : List Domain) (c : Alpha2) → AreEntries b k ds → c ≡ code_at b (entry_place k) → IsCode c → IsTwice b k → HasCode ds c
+pub code_from_twice : (b : List ℕ) (k : ℕ) (ds : List Domain) (c : Alpha2) → AreEntries b k ds → c ≡ entry_code b (entry_place k) → IsCode c → IsTwice b k → HasCode ds c
 code_from_twice b k ds c are at code (j, below, same) =
     let (d, among, entry) = are.each j below in
     let mine = code_is b (entry_place j) d entry in
@@ -38,7 +38,7 @@ code_from_twice b k ds c are at code (j, below, same) =
 
 -- ---- one entry
 
-pub new_entry : (b : List ℕ) (k : ℕ) (ds : List Domain) (d : Domain) (c : Alpha2) → AreEntries b k ds → c ≡ code_at b (entry_place k) → IsCode c → (HasCode ds c → ⊥)
+pub new_entry : (b : List ℕ) (k : ℕ) (ds : List Domain) (d : Domain) (c : Alpha2) → AreEntries b k ds → c ≡ entry_code b (entry_place k) → IsCode c → (HasCode ds c → ⊥)
     → d.alpha2 ≡ c → CollectionAt b (target_at b (entry_place k + 2)) d.region d.rules → IsNewEntry b k ds d
 new_entry b k ds d c are at code fresh is there =
     let mine : IsCode d.alpha2 = subst IsCode (sym is) code in
@@ -55,7 +55,7 @@ new_entry b k ds d c are at code fresh is there =
     }
 
 -- what is wrong with the collection of the entry
-pub entry_stop : (b : List ℕ) (k : ℕ) (ds : List Domain) (c : Alpha2) (stop : ReadFault) → AreEntries b k ds → c ≡ code_at b (entry_place k) → IsCode c → (HasCode ds c → ⊥)
+pub entry_stop : (b : List ℕ) (k : ℕ) (ds : List Domain) (c : Alpha2) (stop : ReadFault) → AreEntries b k ds → c ≡ entry_code b (entry_place k) → IsCode c → (HasCode ds c → ⊥)
     → IsCollectionStop b (target_at b (entry_place k + 2)) c stop → IsEntryStop b k stop
 entry_stop b k ds c (Bad fault) are at code fresh is = inr (
   record { code = subst IsCode at code; once = λ twice. fresh (code_from_twice b k ds c are at code twice) },

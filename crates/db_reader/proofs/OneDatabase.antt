@@ -8,7 +8,8 @@ use Rattle.freq_range.specs.declared.wmm.WmmEntry.{WmmEntry}
 use Rattle.rule_tables.proofs.Ascending.{same_from_elements}
 use Rattle.rule_tables.proofs.Dropped.{DropsRepeats-unique}
 use Rattle.rule_tables.specs.Code.{key}
-use Rattle.rule_tables.specs.FileFormat.{AreEntries, CollectionAt, DropsRepeats, EndsAt, EntryAt, NamesWmm, ReadsAs, RuleAt, RulesAt, WmmAt, WmmEntryAt, entry_place, pointers_of, region_number, target_at}
+use Rattle.rule_tables.specs.Regions.{region_number}
+use Rattle.rule_tables.specs.FileFormat.{AreEntries, CollectionAt, DropsRepeats, EndsAt, EntryAt, NamesWmm, ReadsAs, RuleAt, RulesAt, WmmAt, WmmEntryAt, entry_place, pointers_of, target_at}
 use Rattle.rule_tables.specs.declared.code.Region.{Region}
 use Rattle.rule_tables.specs.declared.code.Region.TheVariants.{Unset, Fcc, Etsi, Jp}
 use Rattle.rule_tables.specs.declared.domain.Domain.{Domain}

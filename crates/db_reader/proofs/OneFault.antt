@@ -5,7 +5,7 @@ use Rattle.freq_range.specs.First.{IsFirst}
 use Rattle.freq_range.proofs.Firsts.{IsFirst-unique}
 use Rattle.rule_tables.specs.Code.{IsCode}
 use Rattle.rule_tables.specs.FileFormat.{u8_at, AreEntries, EndsAt, ReadsAs, entry_place, target_at}
-use Rattle.rule_tables.specs.FileFaults.{HasEntryFault, HasHeader, HasRule, IsCodeFault, IsCollectionFault, IsDbFault, IsEntryFault, IsFaultyRule, IsFirstEntryFault, IsHeaderFault, code_at, rule_place}
+use Rattle.rule_tables.specs.FileFaults.{HasEntryFault, HasHeader, IsRuleAt, IsCodeFault, IsCollectionFault, IsDbFault, IsEntryFault, IsFaultyRule, IsFirstEntryFault, IsHeaderFault, entry_code, rule_place}
 use Rattle.rule_tables.specs.declared.code.Alpha2.{Alpha2}
 use Rattle.rule_tables.specs.declared.domain.Domain.{Domain}
 use Rattle.rule_tables.specs.declared.file_fault.DbFault.{DbFault}
@@ -47,8 +47,8 @@ same_wmm_fault c d e j k p q same = λ i. BadWmm ((p ∙ sym q) i) (same i)
 same_region_fault : (c d e : Alpha2) (r s n : ℕ) → c ≡ e → d ≡ e → r ≡ n → s ≡ n → BadRegion c r ≡ BadRegion d s
 same_region_fault c d e r s n p q t u = λ i. BadRegion ((p ∙ sym q) i) ((t ∙ sym u) i)
 
-rule_and_wmm : (b : List ℕ) (i j k : ℕ) → IsFirst (IsFaultyRule b i) j → IsFirst (IsFaultyRule b i) k → (HasRule b (rule_place b i j) → ⊥) → HasRule b (rule_place b i k) → ⊥
-rule_and_wmm b i j k p q none has = none (subst (λ n. HasRule b (rule_place b i n)) (sym (IsFirst-unique (IsFaultyRule b i) j k p q)) has)
+rule_and_wmm : (b : List ℕ) (i j k : ℕ) → IsFirst (IsFaultyRule b i) j → IsFirst (IsFaultyRule b i) k → (IsRuleAt b (rule_place b i j) → ⊥) → IsRuleAt b (rule_place b i k) → ⊥
+rule_and_wmm b i j k p q none has = none (subst (λ n. IsRuleAt b (rule_place b i n)) (sym (IsFirst-unique (IsFaultyRule b i) j k p q)) has)
 
 region_apart : (b : List ℕ) (i r : ℕ) → r ≡ u8_at b (i + 2) → 3 < r → u8_at b (i + 2) ≤ 3 → ⊥
 region_apart b i r is above low = omega (arith, is, above, low)
@@ -94,7 +94,7 @@ entry_fault-unique : (b : List ℕ) (k : ℕ) (f g : DbFault) → IsEntryFault b
 entry_fault-unique b k f g (inl p) (inl q) = code_fault-unique b k f g p q
 entry_fault-unique b k f g (inl p) (inr q) = absurd (good_code b k f q.0.code q.0.once p)
 entry_fault-unique b k f g (inr p) (inl q) = absurd (good_code b k g p.0.code p.0.once q)
-entry_fault-unique b k f g (inr p) (inr q) = collection_fault-unique b (target_at b (entry_place k + 2)) (code_at b (entry_place k)) f g p.1 q.1
+entry_fault-unique b k f g (inr p) (inr q) = collection_fault-unique b (target_at b (entry_place k + 2)) (entry_code b (entry_place k)) f g p.1 q.1
 
 first_entry_fault-unique : (b : List ℕ) (j k : ℕ) (f g : DbFault) → IsFirstEntryFault b j f → IsFirstEntryFault b k g → f ≡ g
 first_entry_fault-unique b j k f g p q =

@@ -9,8 +9,9 @@ use Rattle.freq_range.proofs.Members.{Contains-head, Contains-from_reverse}
 use Rattle.rule_tables.proofs.Dropped.{DropsRepeats-few, DropsRepeats-keeps, DropsRepeats-only, dropped_distinct}
 use Rattle.rule_tables.specs.Code.{IsCode}
 use Rattle.rule_tables.specs.Databases.{IsDomain}
-use Rattle.rule_tables.specs.FileFormat.{u8_at, CollectionAt, DropsRepeats, EntryAt, NamesWmm, RuleAt, RulesAt, entry_place, pointers_of, region_number, target_at}
-use Rattle.rule_tables.specs.FileFaults.{HasCollection, HasRule, IsCodeFault, IsCollectionFault, IsEntryFault, IsFaultyRule, IsTwice, NamesBadWmm, code_at, rule_place}
+use Rattle.rule_tables.specs.Regions.{region_number}
+use Rattle.rule_tables.specs.FileFormat.{u8_at, CollectionAt, DropsRepeats, EntryAt, NamesWmm, RuleAt, RulesAt, entry_place, pointers_of, target_at}
+use Rattle.rule_tables.specs.FileFaults.{HasCollection, IsRuleAt, IsCodeFault, IsCollectionFault, IsEntryFault, IsFaultyRule, IsTwice, NamesBadWmm, entry_code, rule_place}
 use Rattle.rule_tables.specs.declared.code.Alpha2.{Alpha2}
 use Rattle.rule_tables.specs.declared.code.Region.{Region}
 use Rattle.rule_tables.specs.declared.code.Region.TheVariants.{Unset, Fcc, Etsi, Jp}
@@ -20,7 +21,7 @@ use Rattle.rule_tables.specs.declared.file_fault.DbFault.TheVariants.{BadAlpha2,
 
 -- ---- rules
 
-has_rule : (b : List ℕ) (i : ℕ) (r : Rule) → RuleAt b i r → HasRule b i
+has_rule : (b : List ℕ) (i : ℕ) (r : Rule) → RuleAt b i r → IsRuleAt b i
 has_rule b i r at = record {
   long = at.long;
   in_file = at.in_file;
@@ -33,7 +34,7 @@ no_bad_wmm : (b : List ℕ) (i : ℕ) (o : Option Wmm) → NamesWmm b i o → If
 no_bad_wmm b i None short valid bad = let long = bad.0 in omega (arith, short, long)
 no_bad_wmm b i (Some w) named valid bad = bad.1 w named.1 valid
 
-pub good_rule : (b : List ℕ) (i : ℕ) (r : Rule) → RuleAt b i r → (HasRule b i → ⊥) ⊎ NamesBadWmm b i → ⊥
+pub good_rule : (b : List ℕ) (i : ℕ) (r : Rule) → RuleAt b i r → (IsRuleAt b i → ⊥) ⊎ NamesBadWmm b i → ⊥
 good_rule b i r at (inl none) = none (has_rule b i r at)
 good_rule b i r at (inr bad) = no_bad_wmm b i r.wmm at.wmm at.valid.wmm bad
 
@@ -106,14 +107,14 @@ same_code : (c : Alpha2) (first second : ℕ) → c.a ≡ first → c.b ≡ seco
 same_code c first second p q = λ i. record { a = p i; b = q i }
 
 -- the code of an entry is that of its domain
-pub code_is : (b : List ℕ) (i : ℕ) (d : Domain) → EntryAt b i d → d.alpha2 ≡ code_at b i
+pub code_is : (b : List ℕ) (i : ℕ) (d : Domain) → EntryAt b i d → d.alpha2 ≡ entry_code b i
 code_is b i d entry = same_code d.alpha2 (u8_at b i) (u8_at b (i + 1)) entry.first entry.second
 
-pub good_code : (b : List ℕ) (k : ℕ) (fault : DbFault) → IsCode (code_at b (entry_place k)) → (IsTwice b k → ⊥) → IsCodeFault b k fault → ⊥
+pub good_code : (b : List ℕ) (k : ℕ) (fault : DbFault) → IsCode (entry_code b (entry_place k)) → (IsTwice b k → ⊥) → IsCodeFault b k fault → ⊥
 good_code b k (BadAlpha2 first second) code once fault = fault.2 code
 good_code b k (CountryTwice c) code once fault = once fault.2
 good_code b k fault code once is = absurd is
 
 pub good_entry : (b : List ℕ) (k : ℕ) (d : Domain) (fault : DbFault) → EntryAt b (entry_place k) d → (IsTwice b k → ⊥) → IsEntryFault b k fault → ⊥
 good_entry b k d fault entry once (inl bad) = good_code b k fault (subst IsCode (code_is b (entry_place k) d entry) entry.code) once bad
-good_entry b k d fault entry once (inr bad) = good_collection b (target_at b (entry_place k + 2)) (code_at b (entry_place k)) d.region d.rules fault entry.collection bad.1
+good_entry b k d fault entry once (inr bad) = good_collection b (target_at b (entry_place k + 2)) (entry_code b (entry_place k)) d.region d.rules fault entry.collection bad.1

@@ -13,15 +13,16 @@ use Rattle.freq_range.specs.declared.wmm.WmmEntry.{WmmEntry}
 use Rattle.rule_tables.proofs.Inserted.{IsDb-insert}
 use Rattle.rule_tables.specs.Code.{IsCapital, IsCode, key}
 use Rattle.rule_tables.specs.Databases.{HasCode, Inserts, IsDb}
-use Rattle.rule_tables.specs.FileFormat.{u8_at, u16_at, u32_at, AreEntries, CollectionAt, EndsAt, NamesWmm, ReadsAs, RuleAt, WmmAt, WmmEntryAt, entry_place, flags_in, pointers_of, region_number, target_at}
-use Rattle.rule_tables.specs.FileFaults.{HasCollection, HasHeader, HasRule, IsCollectionFault, IsDbFault, IsEntryFault, IsFirstEntryFault, IsHeaderFault, NamesBadWmm, code_at, rule_place}
+use Rattle.rule_tables.specs.Regions.{region_number}
+use Rattle.rule_tables.specs.FileFormat.{u8_at, u16_at, u32_at, AreEntries, CollectionAt, EndsAt, NamesWmm, ReadsAs, RuleAt, WmmAt, WmmEntryAt, entry_place, flags_in, pointers_of, target_at}
+use Rattle.rule_tables.specs.FileFaults.{HasCollection, HasHeader, IsRuleAt, IsCollectionFault, IsDbFault, IsEntryFault, IsFirstEntryFault, IsHeaderFault, NamesBadWmm, entry_code, rule_place}
 use Rattle.rule_tables.specs.declared.code.Alpha2.{Alpha2}
 use Rattle.rule_tables.specs.declared.code.Region.{Region}
 use Rattle.rule_tables.specs.declared.code.Region.TheVariants.{Unset, Fcc, Etsi, Jp}
 use Rattle.rule_tables.specs.declared.domain.Domain.{Domain}
 use Rattle.rule_tables.specs.declared.file_fault.DbFault.{DbFault}
 use Rattle.rule_tables.specs.declared.file_fault.DbFault.TheVariants.{Short, BadMagic, BadVersion, BadAlpha2, BadCollection, BadRegion, CountryTwice}
-use Rattle.db_reader.specs.Parts.{AreFirstRules, IsNewEntry, IsRuleStop, IsRulesFault, rule_fault}
+use Rattle.db_reader.specs.inner.Parts.{AreFirstRules, IsNewEntry, IsRuleStop, IsRulesFault, rule_fault}
 use Rattle.db_reader.specs.declared.fault.ReadFault.TheVariants.{Bad}
 use Rattle.db_reader.specs.declared.rule_record.RuleStop.{RuleStop}
 use Rattle.db_reader.specs.declared.rule_record.RuleStop.TheVariants.{NoRule, NoWmm}
@@ -50,7 +51,7 @@ told_header b = elim (cases_lt (length b) 8) [
 
 -- ---- rules
 
-told_has_rule : (b : List ℕ) (i : ℕ) → Told (HasRule b i)
+told_has_rule : (b : List ℕ) (i : ℕ) → Told (IsRuleAt b i)
 told_has_rule b i = told_as
     (λ t. record { long = t.0; in_file = t.1.0; above_zero = t.1.1.0; in_order = t.1.1.1.0; wide_enough = t.1.1.1.1 })
     (λ h. (h.long, (h.in_file, (h.above_zero, (h.in_order, h.wide_enough)))))
@@ -119,7 +120,7 @@ rule_in b i o = record {
   wmm = o;
 }
 
-rule_there : (b : List ℕ) (i : ℕ) (o : Option Wmm) → AreBytes b → HasRule b i → NamesWmm b i o → IfSome o IsValidWmm → RuleAt b i (rule_in b i o)
+rule_there : (b : List ℕ) (i : ℕ) (o : Option Wmm) → AreBytes b → IsRuleAt b i → NamesWmm b i o → IfSome o IsValidWmm → RuleAt b i (rule_in b i o)
 rule_there b i o bytes has named valid = record {
   long = has.long;
   in_file = has.in_file;
@@ -237,7 +238,7 @@ tells_code : Tells Alpha2
 tells_code = tells_through {A = Alpha2} {B = ℕ × ℕ} (λ c. (c.a, c.b)) (λ t. record { a = t.0; b = t.1 }) (λ c. refl) (tells_pair cases_eq cases_eq)
 
 some_entry : (b : List ℕ) (k : ℕ) (ds : List Domain) → AreBytes b → AreEntries b k ds → ((d : Domain) × IsNewEntry b k ds d) ⊎ ((fault : DbFault) × IsEntryFault b k fault)
-some_entry b k ds bytes are = let c = code_at b (entry_place k) in elim (told_code c) [
+some_entry b k ds bytes are = let c = entry_code b (entry_place k) in elim (told_code c) [
   | inr none ↦ inr (BadAlpha2 c.a c.b, inl (refl, refl, none))
   | inl code ↦ elim (told_any (λ d. d.alpha2 ≡ c) (λ d. tells_code d.alpha2 c) ds) [
     | inl there ↦ inr (CountryTwice c, inl (refl, code, twice_from_code b k ds c are refl (there.0, there.1, there.2)))

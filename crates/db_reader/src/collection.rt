@@ -1,14 +1,16 @@
 //! Collections of rules in a file.
 
 ghost use Rattle.std.specs.Prelude.{◌≡◌, ◌<◌, ◌≤◌, ◌↔◌, IsTrue, MatchOption, MatchResult, OnOk};
-ghost use Rattle.rule_tables.specs.FileFormat.{CollectionAt, pointers_of, region_number};
+ghost use Rattle.rule_tables.specs.Regions.{region_number};
+ghost use Rattle.rule_tables.specs.FileFormat.{CollectionAt, pointers_of};
 ghost use Rattle.rule_tables.specs.FileFaults.{HasCollection};
-ghost use Rattle.db_reader.specs.Parts.{AreRulesOf, IsCollectionStop, IsPushedNew, IsRulesStop, rule_fault};
+ghost use Rattle.db_reader.specs.inner.Parts.{AreRulesOf, IsCollectionStop, IsPushedNew, IsRulesStop, rule_fault};
 
 use crate::fault::ReadFault;
 use crate::numbers::{is_within, target_at, u8_at};
 use crate::rule_record::{RuleStop, read_rule};
-use freq_range::{OutOfMemory, Rule, RuleList, contains_rule};
+use freq_range::{Rule, RuleList, contains_rule};
+use reg_lists::OutOfMemory;
 use rule_tables::{Alpha2, DbFault, Domain, Region};
 use std::alloc::Global;
 

@@ -1,23 +1,22 @@
 //! Entries of a file.
 
-ghost use Rattle.std.specs.Prelude.{◌≡◌, ◌+◌, ◌↔◌, IsTrue, ◌≤◌, MatchResult, OnOk, length};
-ghost use Rattle.rule_tables.specs.Databases.{HasCode, Inserts, IsDb, IsDomain};
+ghost use Rattle.std.specs.Prelude.{◌≡◌, ◌+◌, ◌↔◌, IsTrue, ◌≤◌, MatchResult, length};
+ghost use Rattle.rule_tables.specs.Databases.{HasCode};
 ghost use Rattle.rule_tables.specs.FileFormat.{AreEntries, EndsAt, ReadsAs, entry_place};
-ghost use Rattle.rule_tables.specs.FileFaults.{HasHeader, IsCodeFault, code_at};
+ghost use Rattle.rule_tables.specs.FileFaults.{HasHeader, IsCodeFault, entry_code};
 ghost use Rattle.rule_tables.specs.Code.{IsCode};
-ghost use Rattle.db_reader.specs.Parts.{IsEntriesStop, IsEntryStop, IsNewEntry};
+ghost use Rattle.db_reader.specs.inner.Parts.{IsEntriesStop, IsEntryStop, IsNewEntry};
 
 use crate::collection::read_collection;
 use crate::fault::ReadFault;
 use crate::numbers::{target_at, u8_at, u16_at};
-use freq_range::OutOfMemory;
-use rule_tables::{Alpha2, Db, DbFault, DbInsertFault, Domain};
+use rule_tables::{Alpha2, Db, DbFault, Domain};
 use std::alloc::Global;
 
 /// The code in the two bytes at that place.
 fn code_at(bytes: &[u8], place: usize) -> Alpha2
     requires { place + 2 ≤ length bytes.now }
-    ensures { result ≡ code_at bytes.now place }
+    ensures { result ≡ entry_code bytes.now place }
 {
     Alpha2 {
         a: u8_at(bytes, place),
@@ -31,7 +30,7 @@ fn read_code(bytes: &[u8], k: usize, db: &Db) -> Result<Alpha2, DbFault>
     requires in_file { entry_place k + 4 ≤ length bytes.now }
     requires so_far { AreEntries bytes.now k db.now }
     ensures { MatchResult result
-        (λ code. (code ≡ code_at bytes.now (entry_place k)) × IsCode code × (HasCode db.now code → ⊥))
+        (λ code. (code ≡ entry_code bytes.now (entry_place k)) × IsCode code × (HasCode db.now code → ⊥))
         (IsCodeFault bytes.now k) }
 {
     let alpha2 = code_at(bytes, 8 + 4 * k);
@@ -56,23 +55,6 @@ fn read_entry(alloc: Global, bytes: &[u8], k: usize, db: &Db) -> Result<Domain, 
     Ok(domain)
 }
 
-/// Puts a domain of a new code into the database, which memory alone may refuse.
-fn put(db: &mut Db, domain: Domain) -> Result<(), OutOfMemory>
-    requires fresh { HasCode db.old domain.alpha2 → ⊥ }
-    requires domain { IsDomain domain }
-    ensures put { OnOk result (Inserts db.old db.new domain) }
-    ensures db { IsDb db.new }
-{
-    match db.insert(domain) {
-        Ok(()) => Ok(()),
-        Err(DbInsertFault::OutOfMemory) => Err(OutOfMemory),
-        Err(DbInsertFault::Twice) => unreachable!(),
-        Err(DbInsertFault::BadCode) => unreachable!(),
-        Err(DbInsertFault::Repeated(_)) => unreachable!(),
-        Err(DbInsertFault::Bad(_)) => unreachable!(),
-    }
-}
-
 /// Whether the list of entries ends at number `k`, which is all in the file: its pointer is 0.
 fn ends_at(bytes: &[u8], k: usize) -> bool
     requires { entry_place k + 4 ≤ length bytes.now }
@@ -93,7 +75,7 @@ pub fn read_entries(alloc: Global, bytes: &[u8]) -> Result<Db, ReadFault>
             return Ok(db);
         }
         let domain = read_entry(alloc, bytes, k, &db)?;
-        put(&mut db, domain)?;
+        db.insert_new(domain)?;
     }
     Ok(db)
 }

@@ -3,7 +3,7 @@
 ghost use Rattle.std.specs.Prelude.{◌≡◌};
 ghost use Rattle.db_reader.specs.declared.fault.ReadFault.TheVariants.{Bad, OutOfMemory as NoMemory};
 
-use freq_range::OutOfMemory;
+use reg_lists::OutOfMemory;
 use rule_tables::DbFault;
 use thiserror::Error;
 

@@ -4,9 +4,6 @@ ghost use Rattle.std.specs.Prelude.{MatchResult};
 ghost use Rattle.rule_tables.specs.FileFormat.{ReadsAs};
 ghost use Rattle.db_reader.specs.Faults.{IsReadFault};
 
-#[cfg(test)]
-mod tests;
-
 use crate::entries::read_entries;
 use crate::fault::ReadFault;
 use crate::header::check_header;

@@ -3,8 +3,8 @@
 ghost use Rattle.std.specs.Prelude.{◌≡◌, ◌+◌, ◌^◌, ◌<◌, ◌≤◌, IfSome, MatchOption, MatchResult, if◌then◌else◌, length, nat_le};
 ghost use Rattle.freq_range.specs.Valid.{IsValidRule, IsValidWmm};
 ghost use Rattle.rule_tables.specs.FileFormat.{NamesWmm, RuleAt, flags_in, u8_at, u16_at};
-ghost use Rattle.rule_tables.specs.FileFaults.{HasRule, NamesBadWmm};
-ghost use Rattle.db_reader.specs.Parts.{BareRuleAt, IsRuleStop};
+ghost use Rattle.rule_tables.specs.FileFaults.{IsRuleAt, NamesBadWmm};
+ghost use Rattle.db_reader.specs.inner.Parts.{BareRuleAt, IsRuleStop};
 ghost use Rattle.db_reader.specs.declared.rule_record.RuleStop.TheVariants.{NoWmm};
 
 use crate::numbers::{is_within, target_at, u8_at, u16_at, u32_at};
@@ -67,7 +67,7 @@ fn bare_rule_at(bytes: &[u8], place: usize) -> Rule
 
 /// The rule at that place without its WMM rule, or `None` where there is no rule.
 fn read_bare_rule(bytes: &[u8], place: usize) -> Option<Rule>
-    ensures { MatchOption result (HasRule bytes.now place → ⊥) (λ r. BareRuleAt bytes.now place r × IsValidRule r × HasRule bytes.now place) }
+    ensures { MatchOption result (IsRuleAt bytes.now place → ⊥) (λ r. BareRuleAt bytes.now place r × IsValidRule r × IsRuleAt bytes.now place) }
 {
     let length = u8_at(bytes, place);
     if length < 16 || !is_within(bytes, place, usize::from(length)) {

@@ -15,7 +15,7 @@ use Rattle.std.specs.List.{list_any, position, position_or_len}
 use Rattle.std.specs.Option.{is_some}
 use Rattle.std.specs.Ordering.{is_eq, nat_cmp}
 use Rattle.freq_range.specs.declared.wmm.Wmm.{Wmm}
-use Rattle.db_text.specs.Naming.{AreNumbered, all_noted, noted}
+use Rattle.db_text.specs.inner.Naming.{AreNumbered, all_noted, noted}
 use Rattle.db_text.specs.Printed.{first_uses, same_wmm, wmm_numbers}
 use Rattle.db_text.proofs.SameWmm.{cases_wmm, same_wmm-itself}
 

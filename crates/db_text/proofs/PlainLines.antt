@@ -10,8 +10,8 @@ use Rattle.std.proofs.lemmas.List.Elements.{All-head, All-tail, All-weaker, filt
 use Rattle.std.proofs.lemmas.List.Folds.{list_all-append}
 use Rattle.std.proofs.lemmas.List.Sums.{AllPass-from_list_all, position_or_len_is}
 use Rattle.std.proofs.lemmas.Str.{IsUtf8-from_ascii}
-use Rattle.db_text.specs.Lines.{bare, is_blank, solid}
-use Rattle.db_text.specs.Spelling.{IsDigit}
+use Rattle.text_lines.specs.Lines.{bare, is_text_blank, solid}
+use Rattle.text_lines.specs.Spelling.{IsDigit}
 
 -- a byte of ASCII that is neither a newline nor a `#`
 abbrev pub is_plain : ℕ → Bool
@@ -31,7 +31,7 @@ both false b p q = p
 pub joined : (a b p q : List ℕ) (m n k : ℕ) → Prints a p m → Prints b q n → m + n ≤ k → Prints (a ++ b) (p ++ q) k
 joined a b p q m n k one two le = record {
   plain = list_all-append is_plain a b ∙ both (list_all is_plain a) (list_all is_plain b) one.plain two.plain;
-  solid = filter-append (λ x. not (is_blank x)) a b ∙ ap (λ xs. xs ++ solid b) one.solid ∙ ap (λ xs. p ++ xs) two.solid;
+  solid = filter-append (λ x. not (is_text_blank x)) a b ∙ ap (λ xs. xs ++ solid b) one.solid ∙ ap (λ xs. p ++ xs) two.solid;
   short = let len = length-append a b in let s = one.short in let t = two.short in omega (arith, len, s, t);
 }
 
@@ -42,7 +42,7 @@ IsSolid b = (48 ≤ b) × (b ≤ 122)
 plain_byte : (b : ℕ) → 48 ≤ b → b ≤ 122 → is_plain b ≡ true
 plain_byte b low high = grind (arith, nat_tests)
 
-solid_byte : (b : ℕ) → 48 ≤ b → b ≤ 122 → is_blank b ≡ false
+solid_byte : (b : ℕ) → 48 ≤ b → b ≤ 122 → is_text_blank b ≡ false
 solid_byte b low high = grind (arith, nat_tests)
 
 plain_bytes : (bs : List ℕ) → All IsSolid bs → list_all is_plain bs ≡ true

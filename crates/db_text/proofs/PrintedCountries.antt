@@ -13,26 +13,26 @@ use Rattle.rule_tables.specs.Databases.{IsDomain}
 use Rattle.rule_tables.specs.declared.code.Alpha2.{Alpha2}
 use Rattle.rule_tables.specs.declared.code.Region.{Region}
 use Rattle.rule_tables.specs.declared.domain.Domain.{Domain}
-use Rattle.db_text.specs.Faults.{HasTooMany, IsContradicted}
-use Rattle.db_text.specs.Forms.{Form, Names, block_of, is_of_code, named_wmm, rules_of, wmm_of}
-use Rattle.db_text.specs.Forms.Block.{OfCountries}
-use Rattle.db_text.specs.Forms.Form.{Country, RuleLine}
+use Rattle.rule_text.specs.Faults.{HasTooManyRules, IsContradicted}
+use Rattle.rule_text.specs.Forms.{Form, NamesCode, block_of, is_of_code, named_wmm, rules_of, wmm_of_name}
+use Rattle.rule_text.specs.Forms.Block.{OfCountries}
+use Rattle.rule_text.specs.Forms.Form.{Country, RuleLine}
 use Rattle.db_text.specs.Printed.{country_line, country_lines, name_among, rule_line}
 use Rattle.db_text.specs.PrintedRules.{printed_rule}
-use Rattle.db_text.specs.Spelling.{codes_text, region_name}
-use Rattle.db_text.proofs.FormLaws.{Names-later, Names-top, Names-top_cases, among_false, among_true, rules_of-unnamed}
-use Rattle.db_text.proofs.GoodLines.{few_rules, good_header, good_rule, has_wmm}
+use Rattle.text_lines.specs.Spelling.{codes_text, region_name}
+use Rattle.rule_text.proofs.FormLaws.{Names-later, Names-top, Names-top_cases, among_false, among_true, rules_of-unnamed}
+use Rattle.rule_text.proofs.GoodLines.{few_rules, good_header, good_rule, has_wmm}
 use Rattle.db_text.proofs.PlainLines.{joined}
 use Rattle.db_text.proofs.PrintedLines.{AreFine, behind, behind-append, country_is, country_prints, fine_line}
 use Rattle.db_text.proofs.PrintedRuleLines.{bare_rule, printed_rule_line, prints_rule, squeezed_rule}
 use Rattle.db_text.proofs.PrintedWords.{IsNamed}
-use Rattle.db_text.proofs.RuleLaws.{open_rules, rule_names}
+use Rattle.rule_text.proofs.RuleLaws.{open_rules, rule_names}
 
 -- ---- rules whose WMM rules are named above
 
 pub record IsResolved (above : List Form) (r : Rule) (name : Option (List ℕ)) : Type 0 where
   pub named : IsNamed name
-  pub there : (n : List ℕ) → name ≡ Some n → wmm_of n above ≢ None
+  pub there : (n : List ℕ) → name ≡ Some n → wmm_of_name n above ≢ None
   pub is : named_wmm above name ≡ r.wmm
 
 -- a rule that can be printed below these lines
@@ -41,11 +41,11 @@ pub record IsPrintable (above : List Form) (ws : List Wmm) (r : Rule) : Type 0 w
   pub no_time : r.cac_s ≡ 0
   pub resolved : IsResolved above r (option_map (name_among ws) r.wmm)
 
-named_same : (above forms : List Form) → ((n : List ℕ) → wmm_of n forms ≡ wmm_of n above) → (name : Option (List ℕ)) → named_wmm forms name ≡ named_wmm above name
+named_same : (above forms : List Form) → ((n : List ℕ) → wmm_of_name n forms ≡ wmm_of_name n above) → (name : Option (List ℕ)) → named_wmm forms name ≡ named_wmm above name
 named_same above forms same None = refl
 named_same above forms same (Some n) = same n
 
-resolved_along : (above forms : List Form) (r : Rule) (name : Option (List ℕ)) → ((n : List ℕ) → wmm_of n forms ≡ wmm_of n above) → IsResolved above r name → IsResolved forms r name
+resolved_along : (above forms : List Form) (r : Rule) (name : Option (List ℕ)) → ((n : List ℕ) → wmm_of_name n forms ≡ wmm_of_name n above) → IsResolved above r name → IsResolved forms r name
 resolved_along above forms r name same is = record {
   named = is.named;
   there = λ n e none. is.there n e (sym (same n) ∙ none);
@@ -64,9 +64,9 @@ record IsRuled (above : List Form) (code : Alpha2) (done : List Rule) (lines : L
   block : block_of forms ≡ OfCountries (code ∷ [])
   rules : rules_of code forms ≡ behind done []
   others : (other : Alpha2) → other ≢ code → rules_of other forms ≡ rules_of other above
-  wmms : (n : List ℕ) → wmm_of n forms ≡ wmm_of n above
-  names : (c : Alpha2) (r : Region) → Names forms c r → Names above c r
-  kept : (c : Alpha2) (r : Region) → Names above c r → Names forms c r
+  wmms : (n : List ℕ) → wmm_of_name n forms ≡ wmm_of_name n above
+  names : (c : Alpha2) (r : Region) → NamesCode forms c r → NamesCode above c r
+  kept : (c : Alpha2) (r : Region) → NamesCode above c r → NamesCode forms c r
 
 length-behind : (xs acc : List Rule) → length (behind xs acc) ≡ length xs + length acc
 length-behind [] acc = omega arith
@@ -90,11 +90,11 @@ more_rules above forms code done lines r name are is =
     ∙ ap (λ xs. r ∷ xs) are.rules ∙ sym (behind-append done (r ∷ []) [])
 
 not_many : (forms : List Form) (code : Alpha2) (done : List Rule) (r : Rule) (name : Option (List ℕ)) → rules_of code (RuleLine (bare_rule r) name ∷ forms) ≡ behind (done ++ r ∷ []) [] → length done < 128
-    → (c : Alpha2) → Contains (code ∷ []) c → HasTooMany (RuleLine (bare_rule r) name ∷ forms) c → ⊥
+    → (c : Alpha2) → Contains (code ∷ []) c → HasTooManyRules (RuleLine (bare_rule r) name ∷ forms) c → ⊥
 not_many forms code done r name is few c has many = elim (Contains-cases code [] c has) [
   | inr none ↦ Contains-nothing c none
   | inl same ↦
-      let drops = subst (λ x. HasTooMany (RuleLine (bare_rule r) name ∷ forms) x) (sym same) many in
+      let drops = subst (λ x. HasTooManyRules (RuleLine (bare_rule r) name ∷ forms) x) (sym same) many in
       let less = DropsRepeats-few (rules_of code (RuleLine (bare_rule r) name ∷ forms)) drops.0 drops.1 in
       let long = ap length is ∙ length-behind (done ++ r ∷ []) [] in
       let one = length_push done r in
@@ -138,7 +138,7 @@ ruled_all (r ∷ rest) done above forms ws code lines are ready few =
 
 -- what the lines give to a country
 pub record HasRules (forms : List Form) (d : Domain) : Type 0 where
-  pub named : Names forms d.alpha2 d.region
+  pub named : NamesCode forms d.alpha2 d.region
   pub rules : rules_of d.alpha2 forms ≡ behind d.rules []
 
 -- some of these countries has the code and the region
@@ -148,8 +148,8 @@ IsAmong done code region = (d : Domain) × Contains done d × (d.alpha2 ≡ code
 -- the lines give these countries their rules, and no others any
 pub record ArePrinted (above : List Form) (done : List Domain) (lines : List (List ℕ)) (forms : List Form) : Type 0 where
   pub fine : AreFine lines forms
-  pub wmms : (n : List ℕ) → wmm_of n forms ≡ wmm_of n above
-  pub named : (code : Alpha2) (region : Region) → Names forms code region → IsAmong done code region
+  pub wmms : (n : List ℕ) → wmm_of_name n forms ≡ wmm_of_name n above
+  pub named : (code : Alpha2) (region : Region) → NamesCode forms code region → IsAmong done code region
   pub each : All (HasRules forms) done
 
 -- a country that can be printed below these lines
@@ -157,7 +157,7 @@ pub record IsReady (above : List Form) (ws : List Wmm) (d : Domain) : Type 0 whe
   pub is : IsDomain d
   pub rules : All (IsPrintable above ws) d.rules
 
-printable_along : (above forms : List Form) (ws : List Wmm) (rules : List Rule) → ((n : List ℕ) → wmm_of n forms ≡ wmm_of n above) → All (IsPrintable above ws) rules → All (IsPrintable forms ws) rules
+printable_along : (above forms : List Form) (ws : List Wmm) (rules : List Rule) → ((n : List ℕ) → wmm_of_name n forms ≡ wmm_of_name n above) → All (IsPrintable above ws) rules → All (IsPrintable forms ws) rules
 printable_along above forms ws rules same each =
     All-weaker (IsPrintable above ws) (IsPrintable forms ws) (λ r ready. record {
       valid = ready.valid;
@@ -175,7 +175,7 @@ uncontradicted above done lines forms d are fresh (code, other, has, named, diff
     ]
 
 unnamed_code : (above : List Form) (done : List Domain) (lines : List (List ℕ)) (forms : List Form) (d : Domain) → ArePrinted above done lines forms
-    → ((c : Domain) → Contains done c → c.alpha2 ≢ d.alpha2) → (region : Region) → Names forms d.alpha2 region → ⊥
+    → ((c : Domain) → Contains done c → c.alpha2 ≢ d.alpha2) → (region : Region) → NamesCode forms d.alpha2 region → ⊥
 unnamed_code above done lines forms d are fresh region named = let c = are.named d.alpha2 region named in fresh c.0 c.1 c.2
 
 country_start : (above : List Form) (done : List Domain) (lines : List (List ℕ)) (forms : List Form) (d : Domain) → ArePrinted above done lines forms → IsDomain d

@@ -8,7 +8,7 @@ use Rattle.std.proofs.lemmas.List.Elements.{All-append, All-cons, All-nil}
 use Rattle.std.proofs.lemmas.List.Sums.{fold-append}
 use Rattle.std.specs.Fmt.{decimal}
 use Rattle.db_text.specs.PrintedNumbers.{dbm_of, mhz_of, thousandths}
-use Rattle.db_text.specs.Spelling.{IsDecimal, IsDigit, IsNumber, scaled, value_of_digits}
+use Rattle.text_lines.specs.Spelling.{IsDecimalText, IsDigit, IsNumber, scaled, value_of_digits}
 
 -- ---- whole numbers
 
@@ -114,7 +114,7 @@ says_thousandths n small = elim (cases_eq n 0) [
 
 -- ---- MHz and dBm
 
-pub mhz_decimal : (khz : ℕ) → khz < 2 ^ 32 → IsDecimal 3 (mhz_of khz)
+pub mhz_decimal : (khz : ℕ) → khz < 2 ^ 32 → IsDecimalText 3 (mhz_of khz)
 mhz_decimal khz small =
     let said = says_thousandths (khz % 1000) (omega arith) in
     record { whole = decimal_number (khz / 1000) (omega arith); fraction = said.each; short = said.short }
@@ -128,7 +128,7 @@ mhz_value khz small =
     ap (λ n. n * 10 ^ (3 - length (thousandths (khz % 1000)))) joined ∙ rw whole (said.value (khz / 1000)) in
     omega (arith, e)
 
-pub dbm_decimal : (mbm : ℕ) → mbm < 2 ^ 16 → IsDecimal 2 (dbm_of mbm)
+pub dbm_decimal : (mbm : ℕ) → mbm < 2 ^ 16 → IsDecimalText 2 (dbm_of mbm)
 dbm_decimal mbm small =
     let said = says_thousandths (mbm % 100 * 10) (omega arith) in
     record { whole = decimal_number (mbm / 100) (omega arith); fraction = said.each; short = said.shorter (omega arith) }

@@ -14,17 +14,17 @@ use Rattle.rule_tables.specs.declared.code.Alpha2.{Alpha2}
 use Rattle.rule_tables.specs.declared.code.Region.{Region}
 use Rattle.rule_tables.specs.declared.code.Region.TheVariants.{Unset, Fcc, Etsi, Jp}
 use Rattle.rule_tables.specs.declared.domain.Domain.{Domain}
-use Rattle.db_text.specs.declared.form.Item.{Item}
-use Rattle.db_text.specs.declared.form.Item.TheVariants.{VoC, ViC, BeC, BkC, VoAp, ViAp, BeAp, BkAp}
-use Rattle.db_text.specs.Faults.{AreAccepted}
-use Rattle.db_text.specs.Forms.{Form, IsForm}
+use Rattle.text_lines.specs.declared.form.Item.{Item}
+use Rattle.text_lines.specs.declared.form.Item.TheVariants.{VoC, ViC, BeC, BkC, VoAp, ViAp, BeAp, BkAp}
+use Rattle.rule_text.specs.Faults.{AreAccepted}
+use Rattle.rule_text.specs.Forms.{Form, IsForm}
 use Rattle.db_text.specs.Printed.{country_line, item_line, region_part, text_of_lines, wmm_name}
-use Rattle.db_text.specs.Spelling.{IsHeader, IsItemLine, IsWmmHeader, ItemText, codes_text, item_name, item_text, region_name}
-use Rattle.db_text.proofs.GoodLines.{IsRight}
+use Rattle.text_lines.specs.Spelling.{IsHeader, IsItemLine, IsWmmHeader, ItemText, codes_text, item_name, item_text, region_name}
+use Rattle.rule_text.proofs.GoodLines.{IsRight}
 use Rattle.db_text.proofs.PlainLines.{IsSolid, Prints, bare_plain, joined, one_line, prints_digits, prints_solid, utf8_plain}
 use Rattle.db_text.proofs.PrintedDigits.{decimal_digits, decimal_number, decimal_short, decimal_value}
 use Rattle.db_text.proofs.PrintedRuleLines.{wmm_name-is, wmm_name-prints}
-use Rattle.db_text.proofs.WholeLine.{readable_good}
+use Rattle.rule_text.proofs.WholeLine.{readable_good}
 
 -- ---- lines that are accepted
 

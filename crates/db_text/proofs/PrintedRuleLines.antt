@@ -6,11 +6,11 @@ use Rattle.std.proofs.lemmas.List.Elements.{All-cons, All-weaker}
 use Rattle.freq_range.specs.Valid.{IsValidRule}
 use Rattle.freq_range.specs.declared.rule.Rule.{Rule}
 use Rattle.db_text.specs.Printed.{wmm_name}
-use Rattle.db_text.specs.PrintedNumbers.{dbm_of, dbm_text, mhz_of, mhz_text}
+use Rattle.db_text.specs.PrintedNumbers.{dbm_of, dbm_text, mhz_of, decimal_mhz_text}
 use Rattle.db_text.specs.PrintedRules.{flags_part, name_part, printed_rule, rule_part}
-use Rattle.db_text.specs.Spelling.{Decimal, IsDecimal, IsDigit, IsName, IsNameByte, IsRuleLine, RuleText, band_text, decimal_text, fraction_text, power_part, words_text}
-use Rattle.db_text.specs.Spelling.Gain.{NoGain}
-use Rattle.db_text.specs.Spelling.Power.{Dbm}
+use Rattle.text_lines.specs.Spelling.{Decimal, IsDecimalText, IsDigit, IsWmmName, IsNameByte, IsRuleLine, RuleText, band_text, decimal_text, fraction_text, power_part, words_text}
+use Rattle.text_lines.specs.Spelling.Gain.{NoGain}
+use Rattle.text_lines.specs.Spelling.Power.{Dbm}
 use Rattle.db_text.proofs.PlainLines.{Prints, joined, prints_digits}
 use Rattle.db_text.proofs.PrintedDigits.{dbm_decimal, dbm_value, decimal_digits, decimal_short, mhz_decimal, mhz_value}
 use Rattle.db_text.proofs.PrintedWords.{IsNamed, printed_are_words, printed_flags, printed_kept, printed_names, printed_words, prints_words}
@@ -23,7 +23,7 @@ wmm_name-prints k small =
     joined (codes "w") (decimal k) (codes "w") (decimal k) 1 20 21 (record { plain = refl; solid = refl; short = omega arith })
     (prints_digits (decimal k) 20 (decimal_digits k small) (decimal_short k small)) (omega arith)
 
-pub wmm_name-is : (k : ℕ) → k < 2 ^ 64 → IsName (wmm_name k)
+pub wmm_name-is : (k : ℕ) → k < 2 ^ 64 → IsWmmName (wmm_name k)
 unfolding wmm_name
 wmm_name-is k small = record {
   some = omega arith;
@@ -39,14 +39,14 @@ prints_fraction [] each short = record { plain = refl; solid = refl; short = ome
 prints_fraction (d ∷ ds) each short =
     joined (codes ".") (d ∷ ds) (codes ".") (d ∷ ds) 1 3 4 (record { plain = refl; solid = refl; short = omega arith }) (prints_digits (d ∷ ds) 3 each short) (omega arith)
 
-prints_decimal : (n : Decimal) (places : ℕ) → IsDecimal places n → places ≤ 3 → length n.whole ≤ 20 → Prints (decimal_text n) (decimal_text n) 24
+prints_decimal : (n : Decimal) (places : ℕ) → IsDecimalText places n → places ≤ 3 → length n.whole ≤ 20 → Prints (decimal_text n) (decimal_text n) 24
 prints_decimal n places is few short =
     let less = is.short in
     joined n.whole (fraction_text n.fraction) n.whole (fraction_text n.fraction) 20 4 24 (prints_digits n.whole 20 is.whole.each short)
     (prints_fraction n.fraction is.fraction (omega (arith, few, less))) (omega arith)
 
-prints_mhz : (khz : ℕ) → khz < 2 ^ 32 → Prints (mhz_text khz) (decimal_text (mhz_of khz)) 24
-unfolding mhz_text
+prints_mhz : (khz : ℕ) → khz < 2 ^ 32 → Prints (decimal_mhz_text khz) (decimal_text (mhz_of khz)) 24
+unfolding decimal_mhz_text
 prints_mhz khz small = prints_decimal (mhz_of khz) 3 (mhz_decimal khz small) (omega arith) (decimal_short (khz / 1000) (omega arith))
 
 prints_dbm : (mbm : ℕ) → mbm < 2 ^ 16 → Prints (dbm_text mbm) (decimal_text (dbm_of mbm)) 24
@@ -94,12 +94,12 @@ prints_rule rule name valid named =
     let e1 = valid.in_order in
     let e2 = valid.wide_enough in
     let e3 = valid.end_fits in
-    let pieces = rule_pieces (mhz_text rule.start_khz) (mhz_text rule.end_khz) (mhz_text rule.max_bw_khz) (dbm_text rule.eirp_mbm) (flags_part rule.flags ++ name_part name)
+    let pieces = rule_pieces (decimal_mhz_text rule.start_khz) (decimal_mhz_text rule.end_khz) (decimal_mhz_text rule.max_bw_khz) (dbm_text rule.eirp_mbm) (flags_part rule.flags ++ name_part name)
     (decimal_text (mhz_of rule.start_khz)) (decimal_text (mhz_of rule.end_khz)) (decimal_text (mhz_of rule.max_bw_khz)) (decimal_text (dbm_of rule.eirp_mbm)) (words_text (printed_words rule.flags name))
     (prints_mhz rule.start_khz (omega (arith, e1, e3))) (prints_mhz rule.end_khz e3) (prints_mhz rule.max_bw_khz (omega (arith, e1, e2, e3)))
     (prints_dbm rule.eirp_mbm valid.power_fits) (prints_words rule.flags name named) in
     same_prints 200
-    (append_assoc (codes "(" ++ mhz_text rule.start_khz ++ codes " - " ++ mhz_text rule.end_khz ++ codes " @ " ++ mhz_text rule.max_bw_khz ++ codes "), (" ++ dbm_text rule.eirp_mbm ++ codes ")")
+    (append_assoc (codes "(" ++ decimal_mhz_text rule.start_khz ++ codes " - " ++ decimal_mhz_text rule.end_khz ++ codes " @ " ++ decimal_mhz_text rule.max_bw_khz ++ codes "), (" ++ dbm_text rule.eirp_mbm ++ codes ")")
     (flags_part rule.flags) (name_part name))
     (regroup (codes "(" ++ decimal_text (mhz_of rule.start_khz) ++ codes "-" ++ decimal_text (mhz_of rule.end_khz) ++ codes "@" ++ decimal_text (mhz_of rule.max_bw_khz))
     (decimal_text (dbm_of rule.eirp_mbm)) (words_text (printed_words rule.flags name)))

@@ -14,19 +14,20 @@ use Rattle.rule_tables.specs.FileFormat.{DropsRepeats}
 use Rattle.rule_tables.specs.declared.code.Alpha2.{Alpha2}
 use Rattle.rule_tables.specs.declared.code.Region.{Region}
 use Rattle.rule_tables.specs.declared.domain.Domain.{Domain}
-use Rattle.db_text.specs.declared.fault.TextKind.{TextKind}
-use Rattle.db_text.specs.declared.fault.TextKind.TheVariants.{WmmShort, NoRules}
-use Rattle.db_text.specs.Faults.{AreAccepted, IsTextOfRule}
-use Rattle.db_text.specs.Forms.{Form, Names, rules_of, wmm_of}
-use Rattle.db_text.specs.Forms.Form.{Country, Empty}
+use Rattle.text_lines.specs.declared.fault.TextKind.{TextKind}
+use Rattle.text_lines.specs.declared.fault.TextKind.TheVariants.{WmmShort, NoRules}
+use Rattle.text_lines.specs.LineFaults.{IsTextOfRule}
+use Rattle.rule_text.specs.Faults.{AreAccepted}
+use Rattle.rule_text.specs.Forms.{Form, NamesCode, rules_of, wmm_of_name}
+use Rattle.rule_text.specs.Forms.Form.{Country, Empty}
 use Rattle.db_text.specs.Printed.{LackTimes, country_lines, first_uses, name_among, printed, printed_lines, same_wmm, wmm_in, wmm_lines_from}
 use Rattle.db_text.specs.PrintedRules.{printed_rule}
-use Rattle.db_text.specs.Spelling.{IsRuleLine}
-use Rattle.db_text.specs.TextOf.{IsShortAt, StandsFor, TextOf}
-use Rattle.db_text.proofs.BareRules.{bare-rule}
-use Rattle.db_text.proofs.EmptyLines.{empty_good}
+use Rattle.text_lines.specs.Spelling.{IsRuleLine}
+use Rattle.rule_text.specs.TextOf.{IsShortAt, FormsStandFor, TextOf}
+use Rattle.text_lines.proofs.BareRules.{bare-rule}
+use Rattle.rule_text.proofs.EmptyLines.{empty_good}
 use Rattle.db_text.proofs.FewDomains.{few_uses}
-use Rattle.db_text.proofs.FormLaws.{Names-cases, Names-later, form_at_contains}
+use Rattle.rule_text.proofs.FormLaws.{Names-cases, Names-later, form_at_contains}
 use Rattle.db_text.proofs.PlainLines.{bare_plain, utf8_plain}
 use Rattle.db_text.proofs.PrintedCountries.{ArePrinted, HasRules, IsReady, IsResolved, country_all}
 use Rattle.db_text.proofs.PrintedLines.{AreFine, IsOneLine, all_behind, behind, behind-append, behind-is, fine_line, lines_back}
@@ -68,7 +69,7 @@ keeps_all rs distinct =
 
 -- ---- the names of the WMM rules in use
 
-name_placed : (ws : List Wmm) (forms : List Form) (lines : List (List ℕ)) (w : Wmm) → AreNamed lines forms ws → Contains ws w → wmm_of (name_among ws w) forms ≡ Some w
+name_placed : (ws : List Wmm) (forms : List Form) (lines : List (List ℕ)) (w : Wmm) → AreNamed lines forms ws → Contains ws w → wmm_of_name (name_among ws w) forms ≡ Some w
 name_placed ws forms lines w are has =
     let at = placed ws w has in
     are.here (position_or_len (same_wmm w) ws) w at.below ∙ ap Some at.is
@@ -82,7 +83,7 @@ resolved ws forms lines r (Some w) are small is has =
     let below = at.below in
     record {
       named = (wmm_name-is (position_or_len (same_wmm w) ws) (omega (arith, below, small)), wmm_name-prints (position_or_len (same_wmm w) ws) (omega (arith, below, small)));
-      there = λ n e none. none-some w (sym none ∙ subst (λ x. wmm_of x forms ≡ Some w) (same_Some (name_among ws w) n e) here);
+      there = λ n e none. none-some w (sym none ∙ subst (λ x. wmm_of_name x forms ≡ Some w) (same_Some (name_among ws w) n e) here);
       is = here ∙ sym is;
     }
 
@@ -118,7 +119,7 @@ read_back ws ds forms fine =
     let back : [] ∷ behind lines [] ≡ reverse (lines ++ [] ∷ []) = ap (λ ls. [] ∷ ls) (behind-is lines [] ∙ append-nil (reverse lines)) ∙ sym (reverse-append lines ([] ∷ [])) in
     (subst (λ ls. AreAccepted ls (Empty ∷ forms)) back last.accepted, (all_behind IsOneLine lines [] all.each).0)
 
-later_names : (forms : List Form) (code : Alpha2) (region : Region) → Names (Empty ∷ forms) code region → Names forms code region
+later_names : (forms : List Form) (code : Alpha2) (region : Region) → NamesCode (Empty ∷ forms) code region → NamesCode forms code region
 later_names forms code region named = elim (Names-cases Empty forms code region named) [
   | inl top ↦ absurd (let e = top.1 in cc)
   | inr later ↦ later
@@ -148,7 +149,7 @@ none_short base forms ds lines below ws db named are k NoRules (cs, region, at, 
     some_rules forms ds d.0 db are.each d.1 (subst (λ c. rules_of c forms ≡ []) (sym d.2) none)
 none_short base forms ds lines below ws db named are k kind short = short
 
-stands : (base forms : List Form) (ds : List Domain) (lines below : List (List ℕ)) (ws : List Wmm) → IsDb ds → AreNamed below base ws → ArePrinted base ds lines forms → StandsFor (Empty ∷ forms) ds
+stands : (base forms : List Form) (ds : List Domain) (lines below : List (List ℕ)) (ws : List Wmm) → IsDb ds → AreNamed below base ws → ArePrinted base ds lines forms → FormsStandFor (Empty ∷ forms) ds
 stands base forms ds lines below ws db named are = record {
   db = db;
   each = λ k d less.

@@ -12,18 +12,18 @@ use Rattle.freq_range.specs.declared.wmm.Wmm.{Wmm}
 use Rattle.freq_range.specs.declared.wmm.WmmEntry.{WmmEntry}
 use Rattle.rule_tables.specs.declared.code.Alpha2.{Alpha2}
 use Rattle.rule_tables.specs.declared.code.Region.{Region}
-use Rattle.db_text.specs.declared.form.Item.{Item}
-use Rattle.db_text.specs.declared.form.Item.TheVariants.{VoC, ViC, BeC, BkC, VoAp, ViAp, BeAp, BkAp}
-use Rattle.db_text.specs.Faults.{HasItem}
-use Rattle.db_text.specs.Forms.{Form, Names, block_of, entry_of, no_items, unnamed, with_entry, wmm_of}
-use Rattle.db_text.specs.Forms.Block.{OfName}
-use Rattle.db_text.specs.Forms.Form.{Country, ItemLine, WmmHeader}
+use Rattle.text_lines.specs.declared.form.Item.{Item}
+use Rattle.text_lines.specs.declared.form.Item.TheVariants.{VoC, ViC, BeC, BkC, VoAp, ViAp, BeAp, BkAp}
+use Rattle.rule_text.specs.Faults.{HasItem}
+use Rattle.rule_text.specs.Forms.{Form, NamesCode, block_of, item_entry, no_items, unnamed, with_entry, wmm_of_name}
+use Rattle.rule_text.specs.Forms.Block.{OfName}
+use Rattle.rule_text.specs.Forms.Form.{Country, ItemLine, WmmHeader}
 use Rattle.db_text.specs.Printed.{item_line, wmm_lines, wmm_lines_from, wmm_name}
-use Rattle.db_text.specs.Spelling.{item_text}
-use Rattle.db_text.proofs.FormLaws.{Names-cases}
-use Rattle.db_text.proofs.GoodLines.{good_item, good_name}
+use Rattle.text_lines.specs.Spelling.{item_text}
+use Rattle.rule_text.proofs.FormLaws.{Names-cases}
+use Rattle.rule_text.proofs.GoodLines.{good_item, good_name}
 use Rattle.db_text.proofs.PrintedLines.{AreFine, behind, behind-append, fine_line, fine_none, item_is, item_prints, text_of_entry, wmm_header_is, wmm_header_prints}
-use Rattle.db_text.proofs.WmmLaws.{cases_name, is_of_name-apart, is_of_name-here, same_name-apart, same_name-itself}
+use Rattle.rule_text.proofs.WmmLaws.{cases_name, is_of_name-apart, is_of_name-here, same_name-apart, same_name-itself}
 
 -- ---- one WMM rule
 
@@ -31,20 +31,20 @@ use Rattle.db_text.proofs.WmmLaws.{cases_name, is_of_name-apart, is_of_name-here
 record IsOpened (above : List Form) (name : List ℕ) (lines : List (List ℕ)) (forms : List Form) (w : Wmm) : Type 0 where
   fine : AreFine lines forms
   block : block_of forms ≡ OfName name
-  here : wmm_of name forms ≡ Some w
-  others : (other : List ℕ) → other ≢ name → wmm_of other forms ≡ wmm_of other above
-  names : (code : Alpha2) (r : Region) → Names forms code r → Names above code r
+  here : wmm_of_name name forms ≡ Some w
+  others : (other : List ℕ) → other ≢ name → wmm_of_name other forms ≡ wmm_of_name other above
+  names : (code : Alpha2) (r : Region) → NamesCode forms code r → NamesCode above code r
 
 never_unnamed : IsValidEntry unnamed → ⊥
 never_unnamed valid = let waits = valid.waits in omega (arith, waits)
 
-lacks_item : (above forms : List Form) (name : List ℕ) (lines : List (List ℕ)) (w : Wmm) (item : Item) → IsOpened above name lines forms w → entry_of item w ≡ unnamed → HasItem forms item → ⊥
+lacks_item : (above forms : List Form) (name : List ℕ) (lines : List (List ℕ)) (w : Wmm) (item : Item) → IsOpened above name lines forms w → item_entry item w ≡ unnamed → HasItem forms item → ⊥
 lacks_item above forms name lines w item is none has =
     let same : has.0 ≡ name = let e = sym has.1 ∙ is.block in cc in
-    let one = same_Some w has.2 (sym is.here ∙ subst (λ n. wmm_of n forms ≡ Some has.2) same has.3) in
-    never_unnamed (subst IsValidEntry (ap (entry_of item) (sym one) ∙ none) has.4)
+    let one = same_Some w has.2 (sym is.here ∙ subst (λ n. wmm_of_name n forms ≡ Some has.2) same has.3) in
+    never_unnamed (subst IsValidEntry (ap (item_entry item) (sym one) ∙ none) has.4)
 
-item_step : (above forms : List Form) (name : List ℕ) (lines : List (List ℕ)) (w : Wmm) (item : Item) (e : WmmEntry) → IsOpened above name lines forms w → entry_of item w ≡ unnamed → IsValidEntry e
+item_step : (above forms : List Form) (name : List ℕ) (lines : List (List ℕ)) (w : Wmm) (item : Item) (e : WmmEntry) → IsOpened above name lines forms w → item_entry item w ≡ unnamed → IsValidEntry e
     → IsOpened above name (item_line item e ∷ lines) (ItemLine item e ∷ forms) (with_entry item e w)
 item_step above forms name lines w item e is none valid = record {
   fine = fine_line lines forms (item_line item e) (item_text item (text_of_entry e)) (ItemLine item e) 118 is.fine (item_prints item e valid) (omega arith) (item_is item e valid)
@@ -58,7 +58,7 @@ item_step above forms name lines w item e is none valid = record {
   ];
 }
 
-header_step : (above : List Form) (lines : List (List ℕ)) (k : ℕ) → AreFine lines above → k < 2 ^ 64 → wmm_of (wmm_name k) above ≡ None
+header_step : (above : List Form) (lines : List (List ℕ)) (k : ℕ) → AreFine lines above → k < 2 ^ 64 → wmm_of_name (wmm_name k) above ≡ None
     → IsOpened above (wmm_name k) ((codes "wmmrule " ++ wmm_name k ++ codes ":") ∷ lines) (WmmHeader (wmm_name k) ∷ above) no_items
 header_step above lines k fine small fresh = record {
   fine = fine_line lines above (codes "wmmrule " ++ wmm_name k ++ codes ":") (codes "wmmrule" ++ wmm_name k ++ codes ":") (WmmHeader (wmm_name k)) 30 fine (wmm_header_prints k small) (omega arith)
@@ -78,7 +78,7 @@ block_forms k w above =
     ItemLine BkAp w.bk_ap ∷ ItemLine BeAp w.be_ap ∷ ItemLine ViAp w.vi_ap ∷ ItemLine VoAp w.vo_ap
     ∷ ItemLine BkC w.bk_c ∷ ItemLine BeC w.be_c ∷ ItemLine ViC w.vi_c ∷ ItemLine VoC w.vo_c ∷ WmmHeader (wmm_name k) ∷ above
 
-block_step : (above : List Form) (lines : List (List ℕ)) (k : ℕ) (w : Wmm) → AreFine lines above → k < 2 ^ 64 → wmm_of (wmm_name k) above ≡ None → IsValidWmm w
+block_step : (above : List Form) (lines : List (List ℕ)) (k : ℕ) (w : Wmm) → AreFine lines above → k < 2 ^ 64 → wmm_of_name (wmm_name k) above ≡ None → IsValidWmm w
     → IsOpened above (wmm_name k) (behind (wmm_lines k w) lines) (block_forms k w above) w
 unfolding wmm_lines
 block_step above lines k w fine small fresh valid =
@@ -98,10 +98,10 @@ block_step above lines k w fine small fresh valid =
 -- the lines give these WMM rules the names of their places, and there are no other lines
 pub record AreNamed (lines : List (List ℕ)) (forms : List Form) (ws : List Wmm) : Type 0 where
   pub fine : AreFine lines forms
-  pub here : (j : ℕ) (d : Wmm) → j < length ws → wmm_of (wmm_name j) forms ≡ Some (get_or ws j d)
-  pub fresh : (j : ℕ) → length ws ≤ j → j < 2 ^ 64 → wmm_of (wmm_name j) forms ≡ None
-  pub valid : (name : List ℕ) (w : Wmm) → wmm_of name forms ≡ Some w → IsValidWmm w
-  pub no_country : (code : Alpha2) (r : Region) → Names forms code r → ⊥
+  pub here : (j : ℕ) (d : Wmm) → j < length ws → wmm_of_name (wmm_name j) forms ≡ Some (get_or ws j d)
+  pub fresh : (j : ℕ) → length ws ≤ j → j < 2 ^ 64 → wmm_of_name (wmm_name j) forms ≡ None
+  pub valid : (name : List ℕ) (w : Wmm) → wmm_of_name name forms ≡ Some w → IsValidWmm w
+  pub no_country : (code : Alpha2) (r : Region) → NamesCode forms code r → ⊥
 
 name_apart : (j k : ℕ) → j < 2 ^ 64 → k < 2 ^ 64 → j ≢ k → wmm_name j ≢ wmm_name k
 unfolding wmm_name
@@ -116,7 +116,7 @@ named_step lines forms ws w are valid small =
     record {
       fine = opened.fine;
       here = λ j d less. elim (cases_eq j k) [
-        | inl same ↦ subst (λ i. wmm_of (wmm_name i) (block_forms k w forms) ≡ Some (get_or (ws ++ w ∷ []) i d)) (sym same) (opened.here ∙ ap Some (sym (get_or_push ws w d k refl)))
+        | inl same ↦ subst (λ i. wmm_of_name (wmm_name i) (block_forms k w forms) ≡ Some (get_or (ws ++ w ∷ []) i d)) (sym same) (opened.here ∙ ap Some (sym (get_or_push ws w d k refl)))
         | inr apart ↦
             let low : j < k = omega (arith, less, apart, long) in
             opened.others (wmm_name j) (name_apart j k (omega (arith, low, small)) small apart) ∙ are.here j d low ∙ ap Some (sym (get_or_append_left ws (w ∷ []) d j low))
@@ -124,7 +124,7 @@ named_step lines forms ws w are valid small =
       fresh = λ j above fits.
           opened.others (wmm_name j) (name_apart j k fits small (omega (arith, above, long))) ∙ are.fresh j (omega (arith, above, long)) fits;
       valid = λ name v is. elim (cases_name name (wmm_name k)) [
-        | inl same ↦ subst IsValidWmm (same_Some w v (sym opened.here ∙ subst (λ n. wmm_of n (block_forms k w forms) ≡ Some v) same is)) valid
+        | inl same ↦ subst IsValidWmm (same_Some w v (sym opened.here ∙ subst (λ n. wmm_of_name n (block_forms k w forms) ≡ Some v) same is)) valid
         | inr apart ↦ are.valid name v (sym (opened.others name apart) ∙ is)
       ];
       no_country = λ code r named. are.no_country code r (opened.names code r named);

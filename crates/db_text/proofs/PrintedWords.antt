@@ -5,11 +5,11 @@ use Rattle.std.proofs.lemmas.List.Concat.{flat_map-append}
 use Rattle.std.proofs.lemmas.List.Elements.{All-append, All-cons, All-nil}
 use Rattle.std.proofs.lemmas.List.Sums.{fold-append}
 use Rattle.freq_range.specs.declared.flags.RuleFlags.{RuleFlags}
-use Rattle.db_text.specs.declared.form.Flag.{Flag}
-use Rattle.db_text.specs.declared.form.Flag.TheVariants.{NoOfdm, NoOutdoor, Dfs, NoIr, AutoBw}
+use Rattle.text_lines.specs.declared.form.Flag.{Flag}
+use Rattle.text_lines.specs.declared.form.Flag.TheVariants.{NoOfdm, NoOutdoor, Dfs, NoIr, AutoBw}
 use Rattle.db_text.specs.PrintedRules.{flag_part, flags_part, name_part}
-use Rattle.db_text.specs.Spelling.{AreWords, IsKeptWord, IsName, IsWord, Word, flags_of, list_of, names_in, no_flags, with_word, word_text, words_text}
-use Rattle.db_text.specs.Spelling.Word.{OfFlag, OfName}
+use Rattle.text_lines.specs.Spelling.{AreWords, IsKeptWord, IsWmmName, IsWord, Word, flags_named, list_of, names_in, no_flags, with_word, word_text, words_text}
+use Rattle.text_lines.specs.Spelling.Word.{OfFlag, OfName}
 use Rattle.db_text.proofs.PlainLines.{Prints, joined}
 
 -- a flag that is set, as a word
@@ -83,7 +83,7 @@ gathered-flags f =
     )
     ∙ flags_step5 f.no_ofdm f.no_outdoor f.dfs f.auto_bw f.no_ir
 
-pub printed_flags : (f : RuleFlags) (name : Option (List ℕ)) → f ≡ flags_of (printed_words f name)
+pub printed_flags : (f : RuleFlags) (name : Option (List ℕ)) → f ≡ flags_named (printed_words f name)
 unfolding printed_words
 printed_flags f name =
     sym (gathered-append no_flags (flag_words f) (name_words name) ∙ ap (λ x. gathered x (name_words name)) (gathered-flags f) ∙ gathered-name f name)
@@ -144,15 +144,15 @@ each_flag P f p q r s t =
 -- a name that can be printed
 abbrev pub IsNamed : Option (List ℕ) → Type 0
 IsNamed None = Unit {0}
-IsNamed (Some name) = IsName name × Prints name name 21
+IsNamed (Some name) = IsWmmName name × Prints name name 21
 
 each_name : (P : Word → Type 0) (name : Option (List ℕ)) → ((n : List ℕ) → name ≡ Some n → P (OfName n)) → All P (name_words name)
 each_name P None is = All-nil P
 each_name P (Some name) is = All-cons P (OfName name) [] (is name refl) (All-nil P)
 
-named_is : (name : Option (List ℕ)) (n : List ℕ) → IsNamed name → name ≡ Some n → IsName n
+named_is : (name : Option (List ℕ)) (n : List ℕ) → IsNamed name → name ≡ Some n → IsWmmName n
 named_is None n is e = absurd cc
-named_is (Some m) n is e = let same : m ≡ n = cc in subst IsName same is.0
+named_is (Some m) n is e = let same : m ≡ n = cc in subst IsWmmName same is.0
 
 pub printed_kept : (f : RuleFlags) (name : Option (List ℕ)) → All IsKeptWord (printed_words f name)
 unfolding printed_words

@@ -1,11 +1,4 @@
-pub mod Faults
-pub mod Forms
-pub mod Lines
-pub mod Naming
 pub mod Printed
 pub mod PrintedNumbers
 pub mod PrintedRules
-pub mod Reading
-pub mod Spelling
-pub mod State
-pub mod TextOf
+pub mod inner

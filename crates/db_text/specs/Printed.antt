@@ -9,12 +9,12 @@ use Rattle.freq_range.specs.declared.wmm.Wmm.{Wmm}
 use Rattle.freq_range.specs.declared.wmm.WmmEntry.{WmmEntry}
 use Rattle.rule_tables.specs.declared.code.Alpha2.{Alpha2}
 use Rattle.rule_tables.specs.declared.domain.Domain.{Domain}
-use Rattle.db_text.specs.declared.form.Item.{Item}
-use Rattle.db_text.specs.declared.form.Item.TheVariants.{VoC, ViC, BeC, BkC, VoAp, ViAp, BeAp, BkAp}
+use Rattle.text_lines.specs.declared.form.Item.{Item}
+use Rattle.text_lines.specs.declared.form.Item.TheVariants.{VoC, ViC, BeC, BkC, VoAp, ViAp, BeAp, BkAp}
 use Rattle.db_text.specs.declared.print_fault.PrintFault.{PrintFault}
 use Rattle.db_text.specs.declared.print_fault.PrintFault.TheVariants.{CacTime, OutOfMemory}
 use Rattle.db_text.specs.PrintedRules.{printed_rule}
-use Rattle.db_text.specs.Spelling.{item_name, region_name}
+use Rattle.text_lines.specs.Spelling.{item_name, region_name}
 
 -- ---- which WMM rules are printed
 

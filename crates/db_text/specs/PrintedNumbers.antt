@@ -1,7 +1,7 @@
 -- How the numbers of a printed text are written: MHz exact in kHz, and dBm exact in mBm. No zero stands last behind a point,
 -- and no point stands where nothing is behind it.
 use Rattle.std.specs.Prelude.{ℕ, ◌+◌, ◌*◌, ◌/◌, ◌%◌, ◌==◌, List, [], ◌∷◌, decimal, if◌then◌else◌}
-use Rattle.db_text.specs.Spelling.{Decimal, decimal_text}
+use Rattle.text_lines.specs.Spelling.{Decimal, decimal_text}
 
 -- the digits of so many thousandths, without zeros at the end
 abbrev pub thousandths : ℕ → List ℕ
@@ -18,8 +18,8 @@ mhz_of khz = record { whole = decimal (khz / 1000); fraction = thousandths (khz 
 abbrev pub dbm_of : ℕ → Decimal
 dbm_of mbm = record { whole = decimal (mbm / 100); fraction = thousandths (mbm % 100 * 10) }
 
-unfoldable pub mhz_text : ℕ → List ℕ
-mhz_text khz = decimal_text (mhz_of khz)
+unfoldable pub decimal_mhz_text : ℕ → List ℕ
+decimal_mhz_text khz = decimal_text (mhz_of khz)
 
 unfoldable pub dbm_text : ℕ → List ℕ
 dbm_text mbm = decimal_text (dbm_of mbm)

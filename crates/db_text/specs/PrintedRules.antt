@@ -2,10 +2,10 @@
 use Rattle.std.specs.Prelude.{ℕ, Bool, List, [], ◌++◌, Option, Some, None, codes, if◌then◌else◌}
 use Rattle.freq_range.specs.declared.flags.RuleFlags.{RuleFlags}
 use Rattle.freq_range.specs.declared.rule.Rule.{Rule}
-use Rattle.db_text.specs.declared.form.Flag.{Flag}
-use Rattle.db_text.specs.declared.form.Flag.TheVariants.{NoOfdm, NoOutdoor, Dfs, NoIr, AutoBw}
-use Rattle.db_text.specs.PrintedNumbers.{dbm_text, mhz_text}
-use Rattle.db_text.specs.Spelling.{flag_name}
+use Rattle.text_lines.specs.declared.form.Flag.{Flag}
+use Rattle.text_lines.specs.declared.form.Flag.TheVariants.{NoOfdm, NoOutdoor, Dfs, NoIr, AutoBw}
+use Rattle.db_text.specs.PrintedNumbers.{dbm_text, decimal_mhz_text}
+use Rattle.text_lines.specs.Spelling.{flag_name}
 
 -- a flag that is set, behind a comma and a blank
 abbrev pub flag_part : Bool → Flag → List ℕ
@@ -19,7 +19,7 @@ flags_part flags =
 -- `(START - END @ WIDTH), (POWER), FLAGS`
 unfoldable pub rule_part : Rule → List ℕ
 rule_part rule =
-    codes "(" ++ mhz_text rule.start_khz ++ codes " - " ++ mhz_text rule.end_khz ++ codes " @ " ++ mhz_text rule.max_bw_khz ++ codes "), (" ++ dbm_text rule.eirp_mbm ++ codes ")"
+    codes "(" ++ decimal_mhz_text rule.start_khz ++ codes " - " ++ decimal_mhz_text rule.end_khz ++ codes " @ " ++ decimal_mhz_text rule.max_bw_khz ++ codes "), (" ++ dbm_text rule.eirp_mbm ++ codes ")"
     ++ flags_part rule.flags
 
 -- the name of a WMM rule, behind a comma and a blank

@@ -1,11 +1,12 @@
 //! Prints numbers.
 
 ghost use Rattle.std.specs.Prelude.{◌≡◌, ◌<◌, ◌++◌, decimal, OnOk};
-ghost use Rattle.db_text.specs.PrintedNumbers.{dbm_text, mhz_text, thousandths};
-ghost use Rattle.db_text.specs.Spelling.{fraction_text};
+ghost use Rattle.db_text.specs.PrintedNumbers.{dbm_text, decimal_mhz_text, thousandths};
+ghost use Rattle.text_lines.specs.Spelling.{fraction_text};
 
 use itoa::Buffer;
-use reg_base::{Bytes, OutOfMemory};
+use reg_base::Bytes;
+use reg_lists::OutOfMemory;
 
 /// Appends a number.
 pub fn put_number(out: &mut Bytes, number: u64) -> Result<(), OutOfMemory>
@@ -38,9 +39,9 @@ fn put_thousandths(out: &mut Bytes, count: u32) -> Result<(), OutOfMemory>
 }
 
 /// Appends kHz in MHz.
-#[tactic(auto, unfolding(crate::specs::PrintedNumbers::mhz_text))]
+#[tactic(auto, unfolding(crate::specs::PrintedNumbers::decimal_mhz_text))]
 pub fn put_mhz(out: &mut Bytes, khz: u32) -> Result<(), OutOfMemory>
-    ensures { OnOk result (out.new ≡ out.old ++ mhz_text khz) }
+    ensures { OnOk result (out.new ≡ out.old ++ decimal_mhz_text khz) }
 {
     put_number(out, u64::from(khz / 1000))?;
     put_thousandths(out, khz % 1000)?;

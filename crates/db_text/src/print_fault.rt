@@ -1,6 +1,6 @@
 //! Why a database isn't printed.
 
-use reg_base::OutOfMemory;
+use reg_lists::OutOfMemory;
 use rule_tables::Alpha2;
 use thiserror::Error;
 

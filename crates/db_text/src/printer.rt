@@ -2,21 +2,19 @@
 
 ghost use Rattle.std.specs.Prelude.{◌≡◌, ◌++◌, IfOk, MatchOption, MatchResult, OnOk, flat_map, map, option_map};
 ghost use Rattle.freq_range.specs.First.{IsFirst};
-ghost use Rattle.db_text.specs.Naming.{IsNumbered};
+ghost use Rattle.db_text.specs.inner.Naming.{IsNumbered};
 ghost use Rattle.db_text.specs.Printed.{HasTimeAt, IsFirstTime, IsPrintFault, LackTimes, LacksTimes, country_line, country_lines, ended, name_among, printed, region_part, rule_line, text_of_lines};
 ghost use Rattle.db_text.specs.PrintedRules.{name_part};
-ghost use Rattle.db_text.specs.Spelling.{region_name};
-ghost use Rattle.db_text.specs.TextOf.{TextOf};
-
-#[cfg(test)]
-mod tests;
+ghost use Rattle.text_lines.specs.Spelling.{region_name};
+ghost use Rattle.rule_text.specs.TextOf.{TextOf};
 
 use crate::print_fault::PrintFault;
 use crate::rule_printer::put_rule_part;
 use crate::wmm_names::{WmmNames, wmm_names};
 use crate::wmm_printer::{put_wmm_name, put_wmm_rules};
 use freq_range::{Rule, Wmm};
-use reg_base::{Bytes, OutOfMemory};
+use reg_base::Bytes;
+use reg_lists::OutOfMemory;
 use rule_tables::{Alpha2, Db, Domain, Region};
 use std::alloc::Global;
 
@@ -134,7 +132,7 @@ fn text_of(alloc: Global, db: &Db) -> Result<Bytes, OutOfMemory>
 /// it as this database.
 ///
 /// Otherwise the fault is `CacTime` with the first rule that has a check time, countries and rules
-/// in order, or where no rule has one, want of memory.
+/// in order, or where no rule has one, out of memory.
 pub fn print(alloc: Global, db: &Db) -> Result<Bytes, PrintFault>
     ensures text { IfOk result (λ text. text ≡ printed db.now) }
     ensures reads { IfOk result (λ text. TextOf text db.now) }

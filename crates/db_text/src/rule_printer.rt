@@ -2,12 +2,13 @@
 
 ghost use Rattle.std.specs.Prelude.{◌≡◌, [], ◌++◌, if◌then◌else◌, None, IfOk, OnOk};
 ghost use Rattle.freq_range.specs.Valid.{IsValidRule};
-ghost use Rattle.db_text.specs.Faults.{IsTextOfRule};
+ghost use Rattle.text_lines.specs.LineFaults.{IsTextOfRule};
 ghost use Rattle.db_text.specs.PrintedRules.{flags_part, printed_rule, rule_part};
 
 use crate::number_printer::{put_dbm, put_mhz};
 use freq_range::{Rule, RuleFlags};
-use reg_base::{Bytes, OutOfMemory};
+use reg_base::Bytes;
+use reg_lists::OutOfMemory;
 use std::alloc::Global;
 
 /// Appends the word of a flag where it is set.

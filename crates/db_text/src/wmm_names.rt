@@ -2,11 +2,11 @@
 
 ghost use Rattle.std.specs.Prelude.{◌≡◌, [], IfOk, OnOk, flat_map};
 ghost use Rattle.std.specs.List.{position_or_len};
-ghost use Rattle.db_text.specs.Naming.{IsNumbered, all_noted, noted};
+ghost use Rattle.db_text.specs.inner.Naming.{IsNumbered, all_noted, noted};
 ghost use Rattle.db_text.specs.Printed.{entry_numbers, first_uses, same_wmm, wmm_in, wmm_in_rule, wmm_in_rules, wmm_numbers};
 
 use freq_range::{Rule, Wmm, WmmEntry};
-use reg_base::OutOfMemory;
+use reg_lists::OutOfMemory;
 use rule_tables::Domain;
 use std::alloc::Global;
 use std::collections::BTreeMap;

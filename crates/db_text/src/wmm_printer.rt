@@ -4,11 +4,11 @@ ghost use Rattle.std.specs.Prelude.{◌≡◌, ◌-◌, ◌^◌, ◌≤◌, ◌+
 ghost use Rattle.freq_range.specs.Valid.{IsValidEntry, IsValidWmm};
 ghost use Rattle.db_text.specs.Printed.{ended, item_line, text_of_lines, wmm_lines, wmm_lines_from, wmm_name};
 
-use crate::form::Item;
 use crate::number_printer::put_number;
-use crate::wmm_reader::item_name;
 use freq_range::{Wmm, WmmEntry};
-use reg_base::{Bytes, OutOfMemory};
+use reg_base::Bytes;
+use reg_lists::OutOfMemory;
+use text_lines::{Item, item_name};
 
 /// Appends a contention window: 2 to this power, less 1.
 fn put_window(out: &mut Bytes, exponent: u8) -> Result<(), OutOfMemory>

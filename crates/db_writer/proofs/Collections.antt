@@ -6,7 +6,7 @@ use Rattle.freq_range.specs.declared.rule.Rule.{Rule}
 use Rattle.rule_tables.specs.Databases.{IsDomain}
 use Rattle.rule_tables.specs.FileFormat.{target_at, pointers_of, RuleAt, RulesAt, CollectionAt}
 use Rattle.rule_tables.specs.declared.domain.Domain.{Domain}
-use Rattle.db_writer.specs.Records.{be16, padding, collection_bytes}
+use Rattle.db_writer.specs.Records.{be16, collection_padding, collection_bytes}
 use Rattle.db_writer.specs.LaidOut.{collection_record}
 use Rattle.db_writer.proofs.Holds.{Holds, Holds-front, Holds-back, Holds-cell, Holds-rest, Holds-be16, length-be16}
 use Rattle.db_writer.proofs.Lengths.{length-pointers}
@@ -43,7 +43,7 @@ collection_reads b i rule_at d domain stand h =
     let region = Holds-cell b (i + 2) _ _ h2 in
     let h3 = Holds-rest b (i + 2) (i + 3) _ _ (omega arith) h2 in
     let h4 = Holds-rest b (i + 3) (i + 4) _ _ (omega arith) h3 in
-    let hp = Holds-front b (i + 4) (flat_map be16 places) (padding (length places)) h4 in
+    let hp = Holds-front b (i + 4) (flat_map be16 places) (collection_padding (length places)) h4 in
     let from : pointers_of b i ≡ i + 4 = ap (λ n. i + (n + 1) / 2 * 2) len in
     let few = domain.rules.few in
     let some = domain.rules.some in

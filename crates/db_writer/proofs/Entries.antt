@@ -6,7 +6,7 @@ use Rattle.rule_tables.specs.Code.{key}
 use Rattle.rule_tables.specs.Databases.{IsDomain}
 use Rattle.rule_tables.specs.FileFormat.{u16_at, CollectionAt, EntryAt}
 use Rattle.rule_tables.specs.declared.domain.Domain.{Domain}
-use Rattle.db_writer.specs.LaidOut.{entry}
+use Rattle.db_writer.specs.LaidOut.{domain_entry}
 use Rattle.db_writer.proofs.Holds.{Holds, Holds-front, Holds-back, Holds-cell, Holds-rest, Holds-be16}
 use Rattle.db_writer.proofs.Lengths.{length-entry}
 
@@ -22,8 +22,8 @@ pub record Stands (b : List ℕ) (i : ℕ) (d : Domain) : Type 0 where
   pub entry : EntryAt b i d
   pub pointer : 0 < u16_at b (i + 2)
 
-entry_reads : (b : List ℕ) (i : ℕ) (collection_at : Domain → ℕ) (d : Domain) → CollectionStands b collection_at d → Holds b i (entry collection_at d) → Stands b i d
-unfolding entry
+entry_reads : (b : List ℕ) (i : ℕ) (collection_at : Domain → ℕ) (d : Domain) → CollectionStands b collection_at d → Holds b i (domain_entry collection_at d) → Stands b i d
+unfolding domain_entry
 entry_reads b i collection_at d stands h =
     let first = Holds-cell b i _ _ h in
     let h1 = Holds-rest b i (i + 1) _ _ refl h in
@@ -41,26 +41,26 @@ entry_reads b i collection_at d stands h =
     }
 
 -- the entries from place e on
-pub entries_read : (b : List ℕ) (e : ℕ) (collection_at : Domain → ℕ) (ds : List Domain) → Holds b e (flat_map (entry collection_at) ds) → All (CollectionStands b collection_at) ds →
+pub entries_read : (b : List ℕ) (e : ℕ) (collection_at : Domain → ℕ) (ds : List Domain) → Holds b e (flat_map (domain_entry collection_at) ds) → All (CollectionStands b collection_at) ds →
     (k : ℕ) (d : Domain) → k < length ds → (i : ℕ) → i ≡ e + 4 * k → Stands b i (slice_index_or ds k d)
 entries_read b e collection_at [] h stand k d lt i is = absurd (omega arith)
 entries_read b e collection_at (x ∷ xs) h stand zero d lt i is =
     let same : e ≡ i = omega arith in
     subst (λ n. Stands b n x) same
-    (entry_reads b e collection_at x (All-head (CollectionStands b collection_at) x xs stand) (Holds-front b e (entry collection_at x) (flat_map (entry collection_at) xs) h))
+    (entry_reads b e collection_at x (All-head (CollectionStands b collection_at) x xs stand) (Holds-front b e (domain_entry collection_at x) (flat_map (domain_entry collection_at) xs) h))
 entries_read b e collection_at (x ∷ xs) h stand (suc k) d lt i is =
-    let rest = Holds-back b e (e + 4) (entry collection_at x) (flat_map (entry collection_at) xs) (omega (arith, length-entry collection_at x)) h in
+    let rest = Holds-back b e (e + 4) (domain_entry collection_at x) (flat_map (domain_entry collection_at) xs) (omega (arith, length-entry collection_at x)) h in
     entries_read b (e + 4) collection_at xs rest (All-tail (CollectionStands b collection_at) x xs stand) k d (omega arith) i (omega arith)
 
-pub length-entries : (collection_at : Domain → ℕ) (ds : List Domain) → length (flat_map (entry collection_at) ds) ≡ 4 * length ds
+pub length-entries : (collection_at : Domain → ℕ) (ds : List Domain) → length (flat_map (domain_entry collection_at) ds) ≡ 4 * length ds
 length-entries collection_at [] = refl
 length-entries collection_at (d ∷ ds) =
-    omega (arith, length-append (entry collection_at d) (flat_map (entry collection_at) ds), length-entry collection_at d, length-entries collection_at ds)
+    omega (arith, length-append (domain_entry collection_at d) (flat_map (domain_entry collection_at) ds), length-entry collection_at d, length-entries collection_at ds)
 
 -- the code of an entry, read as a number, is the domain's key
 pub code_at : (b : List ℕ) (i : ℕ) (d : Domain) → EntryAt b i d → u16_at b i ≡ key d.alpha2
-code_at b i d entry =
-    let first = entry.first in
-    let second = entry.second in
+code_at b i d domain_entry =
+    let first = domain_entry.first in
+    let second = domain_entry.second in
     let next : suc i ≡ i + 1 = sym (add-one i) in
     rw (first, second, next) (omega arith)

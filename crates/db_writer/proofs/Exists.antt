@@ -7,11 +7,11 @@ use Rattle.std.proofs.lemmas.List.Elements.{Contains-get_or}
 use Rattle.std.proofs.lemmas.List.Kept.{AllPairs-cons}
 use Rattle.freq_range.proofs.Members.{Contains-head, Contains-later, Contains-cases, Contains-nothing}
 use Rattle.rule_tables.specs.declared.domain.Domain.{Domain}
-use Rattle.db_writer.specs.Order.{IsSection, precedes}
-use Rattle.db_writer.specs.Keys.{rule_told_by_key, collection_told_by_key}
+use Rattle.db_writer.specs.Order.{IsFileSection, precedes}
+use Rattle.db_writer.specs.inner.Keys.{rule_told_by_key, collection_told_by_key}
 use Rattle.db_writer.specs.Records.{rule_key, collection_key}
-use Rattle.db_writer.specs.LaidOut.{Sections, AreSections, wmm_place, rule_place, collection_record, first_wmm, LaidOut, EndsIn, file, last_collection}
-use Rattle.db_writer.specs.Gathered.{wmm_of_domain, records_of_domain}
+use Rattle.db_writer.specs.LaidOut.{Sections, AreFileSections, wmm_place, place_of_rule, collection_record, first_wmm, LaidOut, EndsIn, file, last_collection}
+use Rattle.db_writer.specs.inner.Gathered.{wmm_of_domain, records_of_domain}
 use Rattle.db_writer.proofs.Sorted.{equal_lists}
 use Rattle.db_writer.proofs.Found.{Ascends, is_less, ascends_rest}
 use Rattle.db_writer.proofs.Unique.{first_precedes}
@@ -123,17 +123,17 @@ in_order_all key told (x ∷ xs) z h = elim (Contains-cases x xs z h) [
 ]
 
 section_exists : {X : Type 0} (key : X → List ℕ) (told : (x y : X) → key x ≡ key y → x ≡ y) (gathered : List X) (InUse : X → Type 0) → ((x : X) → Contains gathered x ↔ InUse x) →
-    IsSection key InUse (in_order key gathered)
+    IsFileSection key InUse (in_order key gathered)
 section_exists key told gathered InUse same =
     section_of_used key gathered (in_order key gathered) InUse same
     (record { ascending = in_order_ascends key told gathered; exactly = λ x. (in_order_only key told gathered x, in_order_all key told gathered x) })
 
-pub sections_exist : (ds : List Domain) → (s : Sections) × AreSections ds s
+pub sections_exist : (ds : List Domain) → (s : Sections) × AreFileSections ds s
 sections_exist ds =
     let ws = in_order (λ bytes. bytes) (flat_map wmm_of_domain ds) in
     let wmm_at = wmm_place (first_wmm ds) ws in
     let rs = in_order rule_key (flat_map (records_of_domain wmm_at) ds) in
-    let rule_at = rule_place wmm_at (first_wmm ds + 8 * length ws) rs in
+    let rule_at = place_of_rule wmm_at (first_wmm ds + 8 * length ws) rs in
     let cs = in_order collection_key (map (collection_record rule_at) ds) in (
       record { wmm_rules = ws; rules = rs; collections = cs },
       record {

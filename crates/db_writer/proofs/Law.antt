@@ -10,7 +10,7 @@ use Rattle.rule_tables.specs.FileFormat.{u16_at, EndsAt, AreEntries, ReadsAs}
 use Rattle.rule_tables.specs.declared.domain.Domain.{Domain}
 use Rattle.db_writer.specs.Order.{place_in}
 use Rattle.db_writer.specs.Records.{be32, wmm_bytes, rule_key, rule_words, rule_bytes, collection_key, collection_words, collection_bytes}
-use Rattle.db_writer.specs.LaidOut.{Sections, AreSections, HasRule, wmm_place, rule_record, rule_place, collection_record, collection_place, first_wmm, first_rule, first_collection, wmm_at, rule_at, collection_at, last_collection, entry, file}
+use Rattle.db_writer.specs.LaidOut.{Sections, AreFileSections, IsRuleInUse, wmm_place, rule_record, place_of_rule, collection_record, collection_place, first_wmm, first_rule, first_collection, wmm_at, rule_at, collection_at, last_collection, domain_entry, file}
 use Rattle.db_writer.proofs.Holds.{Holds, Holds-whole, Holds-front, Holds-back, Holds-be32, Holds-piece, length-be32, length-pieces, sum_by-eights}
 use Rattle.db_writer.proofs.Lengths.{length-wmm_bytes, length-rule_bytes, length-collection_bytes}
 use Rattle.db_writer.proofs.Found.{Ascends}
@@ -78,12 +78,12 @@ record_there key words bytes b first xs x up (k, within, is) lengths h =
     let at = place_at key words first xs x k up within is in
     subst (λ y. Holds b (4 * place_in key words first xs x) (bytes y)) is (Holds-piece bytes words b first (place_in key words first xs x) xs k x h lengths within at)
 
-wmm_lengths : (ds : List Domain) (s : Sections) → AreSections ds s → All (λ bytes. length bytes ≡ 4 * 8) s.wmm_rules
+wmm_lengths : (ds : List Domain) (s : Sections) → AreFileSections ds s → All (λ bytes. length bytes ≡ 4 * 8) s.wmm_rules
 wmm_lengths ds s sections = λ k d within.
     let (r, w, has, some, is) = (sections.wmm_rules.exactly _).0 (Contains-get_or s.wmm_rules k d within) in
     subst (λ bytes. length bytes ≡ 4 * 8) (sym is) (length-wmm_bytes w)
 
-wmm_stands : (b : List ℕ) (ds : List Domain) (s : Sections) (r : Rule) (o : Option Wmm) → HoldsSections b ds s → AreSections ds s → last_collection ds s ≤ 65535 → HasRule ds r → r.wmm ≡ o →
+wmm_stands : (b : List ℕ) (ds : List Domain) (s : Sections) (r : Rule) (o : Option Wmm) → HoldsSections b ds s → AreFileSections ds s → last_collection ds s ≤ 65535 → IsRuleInUse ds r → r.wmm ≡ o →
     IfSome o (IsWritten b (wmm_at ds s))
 unfolding wmm_place
 wmm_stands b ds s r None holds sections small has e = tt
@@ -94,9 +94,9 @@ wmm_stands b ds s r (Some w) holds sections small has e =
       there = record_there (λ bytes. bytes) (λ bytes. 8) (λ bytes. bytes) b (first_wmm ds) s.wmm_rules (wmm_bytes w) sections.wmm_rules.ascending there (wmm_lengths ds s sections) holds.wmm_rules;
     }
 
-rule_stands : (b : List ℕ) (ds : List Domain) (s : Sections) (d : Domain) (r : Rule) → IsDomain d → HoldsSections b ds s → AreSections ds s → last_collection ds s ≤ 65535 →
+rule_stands : (b : List ℕ) (ds : List Domain) (s : Sections) (d : Domain) (r : Rule) → IsDomain d → HoldsSections b ds s → AreFileSections ds s → last_collection ds s ≤ 65535 →
     Contains ds d → Contains d.rules r → RuleStands b (rule_at ds s) r
-unfolding rule_place
+unfolding place_of_rule
 rule_stands b ds s d r domain holds sections small among has =
     let there = (sections.rules.exactly (rule_record (wmm_at ds s) r)).1 (r, (d, among, has), refl) in
     let bytes = record_there rule_key rule_words rule_bytes b (first_rule ds s) s.rules (rule_record (wmm_at ds s) r) sections.rules.ascending there (λ k x lt. length-rule_bytes _) holds.rules in
@@ -106,7 +106,7 @@ rule_stands b ds s d r domain holds sections small among has =
       there = rule_reads b (4 * rule_at ds s r) (wmm_at ds s) r valid (wmm_stands b ds s r r.wmm holds sections small (d, among, has) refl) bytes;
     }
 
-collection_stands : (b : List ℕ) (ds : List Domain) (s : Sections) (d : Domain) → IsDomain d → HoldsSections b ds s → AreSections ds s → last_collection ds s ≤ 65535 →
+collection_stands : (b : List ℕ) (ds : List Domain) (s : Sections) (d : Domain) → IsDomain d → HoldsSections b ds s → AreFileSections ds s → last_collection ds s ≤ 65535 →
     Contains ds d → CollectionStands b (collection_at ds s) d
 unfolding collection_place
 collection_stands b ds s d domain holds sections small among =
@@ -120,7 +120,7 @@ collection_stands b ds s d domain holds sections small among =
       there = collection_reads b (4 * collection_at ds s d) (rule_at ds s) d domain stand bytes;
     }
 
-pub reads_as : (ds : List Domain) (s : Sections) → IsDb ds → AreSections ds s → last_collection ds s ≤ 65535 → ReadsAs (file ds s) ds
+pub reads_as : (ds : List Domain) (s : Sections) → IsDb ds → AreFileSections ds s → last_collection ds s ≤ 65535 → ReadsAs (file ds s) ds
 unfolding file
 reads_as ds s db sections small =
     let b = file ds s in
@@ -131,7 +131,7 @@ reads_as ds s db sections small =
     let version = Holds-be32 b 4 20 (omega arith) (Holds-front b 4 (be32 20) _ h4) in
     let h8 = Holds-back b 4 8 (be32 20) _ (omega (arith, length-be32 20)) h4 in
     let ze = 8 + 4 * length ds in
-    let hz = Holds-back b 8 ze (flat_map (entry places) ds) _ (omega (arith, length-entries places ds)) h8 in
+    let hz = Holds-back b 8 ze (flat_map (domain_entry places) ds) _ (omega (arith, length-entries places ds)) h8 in
     let hw = Holds-back b ze (4 * first_wmm ds) (be32 0) _ (omega (arith, length-be32 0)) hz in
     let wmm_length = length-pieces (λ bytes. bytes) (λ bytes. 8) s.wmm_rules (wmm_lengths ds s sections) in
     let eights = sum_by-eights s.wmm_rules in
@@ -143,7 +143,7 @@ reads_as ds s db sections small =
       rules = Holds-front b (4 * first_rule ds s) (flat_map rule_bytes s.rules) _ hr;
       collections = hc;
     } in
-    let stand = entries_read b 8 places ds (Holds-front b 8 (flat_map (entry places) ds) _ h8)
+    let stand = entries_read b 8 places ds (Holds-front b 8 (flat_map (domain_entry places) ds) _ h8)
     (λ k d within. collection_stands b ds s _ (db.each k d within) holds sections small (Contains-get_or ds k d within)) in
     record {
       whole_header = omega (arith, h8.in_range);

@@ -5,8 +5,8 @@ use Rattle.std.proofs.lemmas.List.{length-append}
 use Rattle.freq_range.specs.declared.wmm.Wmm.{Wmm}
 use Rattle.freq_range.specs.declared.wmm.WmmEntry.{WmmEntry}
 use Rattle.rule_tables.specs.declared.domain.Domain.{Domain}
-use Rattle.db_writer.specs.Records.{be16, wmm_entry_bytes, wmm_bytes, rule_length, rule_end, rule_bytes, rule_words, padding, collection_bytes, collection_words}
-use Rattle.db_writer.specs.LaidOut.{entry}
+use Rattle.db_writer.specs.Records.{be16, wmm_entry_bytes, wmm_bytes, rule_length, rule_end, rule_bytes, rule_words, collection_padding, collection_bytes, collection_words}
+use Rattle.db_writer.specs.LaidOut.{domain_entry}
 use Rattle.db_writer.specs.declared.records.CollectionRecord.{CollectionRecord}
 use Rattle.db_writer.specs.declared.records.RuleRecord.{RuleRecord}
 use Rattle.db_writer.proofs.Holds.{length-be16, length-be32}
@@ -48,8 +48,8 @@ pub length-pointers : (places : List ℕ) → length (flat_map be16 places) ≡ 
 length-pointers [] = refl
 length-pointers (p ∷ places) = omega (arith, length-append (be16 p) (flat_map be16 places), length-be16 p, length-pointers places)
 
-length-padding : (n : ℕ) → 4 + 2 * n + length (padding n) ≡ 4 * (1 + (n + 1) / 2)
-unfolding padding
+length-padding : (n : ℕ) → 4 + 2 * n + length (collection_padding n) ≡ 4 * (1 + (n + 1) / 2)
+unfolding collection_padding
 length-padding n =
     let odd : n % 2 ≢ 0 → n % 2 ≡ 1 = λ ne. omega arith in
     elim (cases_eq (n % 2) 0) [
@@ -60,8 +60,8 @@ length-padding n =
 pub length-collection_bytes : (c : CollectionRecord) → length (collection_bytes c) ≡ 4 * collection_words c
 unfolding collection_bytes collection_words
 length-collection_bytes c =
-    omega (arith, length-append (flat_map be16 c.rules) (padding (length c.rules)), length-pointers c.rules, length-padding (length c.rules))
+    omega (arith, length-append (flat_map be16 c.rules) (collection_padding (length c.rules)), length-pointers c.rules, length-padding (length c.rules))
 
-pub length-entry : (place : Domain → ℕ) (d : Domain) → length (entry place d) ≡ 4 * 1
-unfolding entry
+pub length-entry : (place : Domain → ℕ) (d : Domain) → length (domain_entry place d) ≡ 4 * 1
+unfolding domain_entry
 length-entry place d = omega (arith, length-be16 (place d))

@@ -7,12 +7,12 @@ use Rattle.freq_range.specs.declared.rule.Rule.{Rule}
 use Rattle.freq_range.specs.declared.wmm.Wmm.{Wmm}
 use Rattle.rule_tables.specs.Databases.{IsDb, IsDomain}
 use Rattle.rule_tables.specs.declared.domain.Domain.{Domain}
-use Rattle.db_writer.specs.Order.{IsSection, place_in}
+use Rattle.db_writer.specs.Order.{IsFileSection, place_in}
 use Rattle.db_writer.specs.Records.{be32, wmm_bytes, rule_key, rule_words, rule_bytes, collection_key, collection_words, collection_bytes}
-use Rattle.db_writer.specs.LaidOut.{Sections, AreSections, UsesRule, UsesCollection, HasRule, wmm_place, rule_record, rule_place, collection_record, collection_place, first_wmm, first_rule, first_collection, wmm_at, rule_at, collection_at, last_collection, entry, file}
-use Rattle.db_writer.specs.Fits.{RuleFits, CollectionFits}
-use Rattle.db_writer.specs.Filed.{wmm_at_in, rule_at_in, AreFiled}
-use Rattle.db_writer.specs.Planned.{sections_in, IsPlanOf, IsReady, CanBeWritten, planned_collection, planned_file}
+use Rattle.db_writer.specs.LaidOut.{Sections, AreFileSections, UsesRule, UsesCollection, IsRuleInUse, wmm_place, rule_record, place_of_rule, collection_record, collection_place, first_wmm, first_rule, first_collection, wmm_at, rule_at, collection_at, last_collection, domain_entry, file}
+use Rattle.db_writer.specs.inner.Fits.{RuleFits, CollectionFits}
+use Rattle.db_writer.specs.inner.Filed.{wmm_at_in, rule_at_in, AreFiled}
+use Rattle.db_writer.specs.inner.Planned.{sections_in, IsPlanOf, IsDomainPlanned, CanBeWritten, planned_collection, planned_file}
 use Rattle.db_writer.specs.declared.plan.Plan.{Plan}
 use Rattle.db_writer.specs.declared.records.CollectionRecord.{CollectionRecord}
 use Rattle.db_writer.specs.declared.records.RuleRecord.{RuleRecord}
@@ -48,7 +48,7 @@ place_up_to_last key words first xs x up (k, within, is) =
 rules_before : (ds : List Domain) (s : Sections) → first_rule ds s ≤ last_collection ds s
 rules_before ds s = omega arith
 
-pub wmm_in_reach : (ds : List Domain) (s : Sections) (r : Rule) (o : Option Wmm) → AreSections ds s → r.wmm ≡ o → HasRule ds r → last_collection ds s ≤ 65535 →
+pub wmm_in_reach : (ds : List Domain) (s : Sections) (r : Rule) (o : Option Wmm) → AreFileSections ds s → r.wmm ≡ o → IsRuleInUse ds r → last_collection ds s ≤ 65535 →
     IfSome (option_map (wmm_at ds s) o) (λ place. place ≤ 65535)
 unfolding wmm_place
 wmm_in_reach ds s r None sections e has small = tt
@@ -58,18 +58,18 @@ wmm_in_reach ds s r (Some w) sections e has small =
     let all = sum_by-le (λ bytes. 8) 8 s.wmm_rules (λ k d lt. omega arith) in
     omega (arith, within, all, small)
 
-rule_fits : (ds : List Domain) (s : Sections) (x : RuleRecord) → AreSections ds s → UsesRule (wmm_at ds s) ds x → last_collection ds s ≤ 65535 → RuleFits x
+rule_fits : (ds : List Domain) (s : Sections) (x : RuleRecord) → AreFileSections ds s → UsesRule (wmm_at ds s) ds x → last_collection ds s ≤ 65535 → RuleFits x
 unfolding rule_record
 rule_fits ds s x sections (r, has, is) small = subst RuleFits (sym is) (wmm_in_reach ds s r r.wmm sections refl has small)
 
-pub rule_in_reach : (ds : List Domain) (s : Sections) (r : Rule) → AreSections ds s → HasRule ds r → last_collection ds s ≤ 65535 → rule_at ds s r ≤ 65535
-unfolding rule_place
+pub rule_in_reach : (ds : List Domain) (s : Sections) (r : Rule) → AreFileSections ds s → IsRuleInUse ds r → last_collection ds s ≤ 65535 → rule_at ds s r ≤ 65535
+unfolding place_of_rule
 rule_in_reach ds s r sections has small =
     let there = (sections.rules.exactly (rule_record (wmm_at ds s) r)).1 (r, has, refl) in
     let within = place_within rule_key rule_words (first_rule ds s) s.rules (rule_record (wmm_at ds s) r) sections.rules.ascending there in
     omega (arith, within, small)
 
-collection_fits : (ds : List Domain) (s : Sections) (c : CollectionRecord) → All IsDomain ds → AreSections ds s → UsesCollection (rule_at ds s) ds c → last_collection ds s ≤ 65535 → CollectionFits c
+collection_fits : (ds : List Domain) (s : Sections) (c : CollectionRecord) → All IsDomain ds → AreFileSections ds s → UsesCollection (rule_at ds s) ds c → last_collection ds s ≤ 65535 → CollectionFits c
 unfolding collection_record
 collection_fits ds s c all sections (d, among, is) small =
     let few = (All-contains IsDomain ds d all among).rules.few in
@@ -77,7 +77,7 @@ collection_fits ds s c all sections (d, among, is) small =
     let reach : All (λ r. rule_at ds s r ≤ 65535) d.rules = λ k r lt. rule_in_reach ds s _ sections (d, among, Contains-get_or d.rules k r lt) small in
     subst CollectionFits (sym is) (omega (arith, few, len), All-map (λ place. place ≤ 65535) (rule_at ds s) d.rules reach)
 
-pub collection_in_reach : (ds : List Domain) (s : Sections) (d : Domain) → AreSections ds s → Contains ds d → last_collection ds s ≤ 65535 → collection_at ds s d ≤ 65535
+pub collection_in_reach : (ds : List Domain) (s : Sections) (d : Domain) → AreFileSections ds s → Contains ds d → last_collection ds s ≤ 65535 → collection_at ds s d ≤ 65535
 unfolding collection_place
 collection_in_reach ds s d sections among small =
     let there = (sections.collections.exactly (collection_record (rule_at ds s) d)).1 (d, among, refl) in
@@ -89,7 +89,7 @@ same_wmm : (ds : List Domain) (p : Plan) → IsPlanOf ds p → wmm_at_in p.rules
 same_wmm ds p plan = λ i. wmm_place (plan.wmm_first i) p.rules.wmm_rules.records.items
 
 same_rule : (ds : List Domain) (p : Plan) → IsPlanOf ds p → rule_at_in p.rules ≡ rule_at ds (sections_in p)
-same_rule ds p plan = λ i. rule_place (same_wmm ds p plan i) (plan.rule_first i) p.rules.rules.records.items
+same_rule ds p plan = λ i. place_of_rule (same_wmm ds p plan i) (plan.rule_first i) p.rules.rules.records.items
 
 same_collection : (ds : List Domain) (p : Plan) → IsPlanOf ds p → planned_collection p ≡ collection_at ds (sections_in p)
 same_collection ds p plan = λ i. collection_place (same_rule ds p plan i) (plan.collection_first i) p.collections.records.items
@@ -97,14 +97,14 @@ same_collection ds p plan = λ i. collection_place (same_rule ds p plan i) (plan
 pub same_file : (ds : List Domain) (p : Plan) → IsPlanOf ds p → planned_file ds p ≡ file ds (sections_in p)
 unfolding planned_file file
 same_file ds p plan =
-    ap (λ place. be32 0x52474442 ++ (be32 20 ++ (flat_map (entry place) ds ++ (be32 0
+    ap (λ place. be32 0x52474442 ++ (be32 20 ++ (flat_map (domain_entry place) ds ++ (be32 0
     ++ (flat_map (λ bytes. bytes) p.rules.wmm_rules.records.items ++ (flat_map rule_bytes p.rules.rules.records.items ++ flat_map collection_bytes p.collections.records.items))))))
     (same_collection ds p plan)
 
-is_ready : (ds : List Domain) (p : Plan) (d : Domain) → All IsDomain ds → IsPlanOf ds p → last_collection ds (sections_in p) ≤ 65535 → Contains ds d → IsReady p d
+is_ready : (ds : List Domain) (p : Plan) (d : Domain) → All IsDomain ds → IsPlanOf ds p → last_collection ds (sections_in p) ≤ 65535 → Contains ds d → IsDomainPlanned p d
 is_ready ds p d all plan small among =
     let s = sections_in p in
-    let rules = subst (λ f. IsSection rule_key (UsesRule f ds) s.rules) (sym (same_wmm ds p plan)) plan.sections.rules in
+    let rules = subst (λ f. IsFileSection rule_key (UsesRule f ds) s.rules) (sym (same_wmm ds p plan)) plan.sections.rules in
     record {
       domain = All-contains IsDomain ds d all among;
       filed = All-contains (AreFiled p.rules) ds d (all_filed ds p.rules plan.sections.wmm_rules rules) among;

@@ -10,7 +10,7 @@ use Rattle.std.proofs.lemmas.List.Elements.{All-contains, Contains-get_or}
 use Rattle.std.proofs.lemmas.List.Kept.{Contains-dedup, Contains-from_dedup, IsStrictlySortedBy-dedup}
 use Rattle.std.proofs.lemmas.List.Sorted.{Contains-permutation, IsPermutation-sym}
 use Rattle.std.proofs.lemmas.Map.Keys.{Less-from_sorted}
-use Rattle.db_writer.specs.Order.{IsSection}
+use Rattle.db_writer.specs.Order.{IsFileSection}
 
 pub is_equal : (o : Ordering) → is_eq o ≡ true → o ≡ Equal
 is_equal Equal e = refl
@@ -28,7 +28,7 @@ same_record R key by_key told x y e = told x y (equal_lists (key x) (key y) (sym
 
 pub section_from : {X : Type 0} {R : X → X → Ordering} {E : X → X → Bool} (total : IsTotalOrder R) (laws : IsEquivalence E) (ties : (x y : X) → E x y ≡ eq_by_cmp R x y)
     (key : X → List ℕ) (by_key : (x y : X) → R x y ≡ slice_cmp nat_cmp (key x) (key y)) (told : (x y : X) → key x ≡ key y → x ≡ y)
-    (old sorted new : List X) → IsPermutation old sorted → IsSorted R sorted → new ≡ dedup E sorted → IsSection key (Contains old) new
+    (old sorted new : List X) → IsPermutation old sorted → IsSorted R sorted → new ≡ dedup E sorted → IsFileSection key (Contains old) new
 section_from {X} {R} {E} total laws ties key by_key told old sorted new moved up is =
     let same : (x y : X) → E x y ≡ true → x ≡ y = λ x y e. same_record R key by_key told x y (is_equal (R x y) (sym (ties x y) ∙ e)) in
     let strict : IsStrictlySortedBy R new = subst (IsStrictlySortedBy R) (sym is) (IsStrictlySortedBy-dedup total ties sorted up) in
@@ -41,5 +41,5 @@ section_from {X} {R} {E} total laws ties key by_key told old sorted new moved up
     }
 
 -- what holds of all records holds of those of their section
-pub kept_all : {X : Type 0} (P : X → Type 0) (key : X → List ℕ) (old new : List X) → IsSection key (Contains old) new → All P old → All P new
+pub kept_all : {X : Type 0} (P : X → Type 0) (key : X → List ℕ) (old new : List X) → IsFileSection key (Contains old) new → All P old → All P new
 kept_all P key old new section all = λ k d within. All-contains P old _ all ((section.exactly _).0 (Contains-get_or new k d within))

@@ -3,9 +3,9 @@ use Rattle.std.proofs.Common.{◌≡◌, ℕ, zero, suc, ◌+◌, ◌*◌, List,
 use Rattle.std.proofs.lemmas.Bool.{true≢false}
 use Rattle.freq_range.proofs.Members.{Contains-head, Contains-later, Contains-cases, Contains-nothing}
 use Rattle.rule_tables.specs.declared.domain.Domain.{Domain}
-use Rattle.db_writer.specs.Order.{IsSection, precedes}
+use Rattle.db_writer.specs.Order.{IsFileSection, precedes}
 use Rattle.db_writer.specs.Records.{rule_key, collection_key}
-use Rattle.db_writer.specs.LaidOut.{Sections, AreSections, UsesWmm, UsesRule, UsesCollection, wmm_place, rule_place, first_wmm, LaidOut, EndsIn, file, last_collection}
+use Rattle.db_writer.specs.LaidOut.{Sections, AreFileSections, UsesWmm, UsesRule, UsesCollection, wmm_place, place_of_rule, first_wmm, LaidOut, EndsIn, file, last_collection}
 use Rattle.db_writer.proofs.Found.{Ascends, ascends_rest, not_back, not_itself}
 
 -- the first of an ascending list precedes each of the others
@@ -46,17 +46,17 @@ same_records key (x ∷ xs) (y ∷ ys) up up' into back =
     let rest = same_records key xs ys (ascends_rest key x xs up) (ascends_rest key y ys up') (behind_first key x xs y ys up first into) (behind_first key y ys x xs up' (sym first) back) in
     λ i. first i ∷ rest i
 
-pub section_unique : {X : Type 0} (key : X → List ℕ) (InUse : X → Type 0) (xs ys : List X) → IsSection key InUse xs → IsSection key InUse ys → xs ≡ ys
+pub section_unique : {X : Type 0} (key : X → List ℕ) (InUse : X → Type 0) (xs ys : List X) → IsFileSection key InUse xs → IsFileSection key InUse ys → xs ≡ ys
 section_unique key InUse xs ys one other =
     same_records key xs ys one.ascending other.ascending (λ z h. (other.exactly z).1 ((one.exactly z).0 h)) (λ z h. (one.exactly z).1 ((other.exactly z).0 h))
 
-pub sections_unique : (ds : List Domain) (s t : Sections) → AreSections ds s → AreSections ds t → s ≡ t
+pub sections_unique : (ds : List Domain) (s t : Sections) → AreFileSections ds s → AreFileSections ds t → s ≡ t
 sections_unique ds s t one other =
     let wmm : s.wmm_rules ≡ t.wmm_rules = section_unique (λ bytes. bytes) (UsesWmm ds) s.wmm_rules t.wmm_rules one.wmm_rules other.wmm_rules in
-    let rule_section = subst (λ ws. IsSection rule_key (UsesRule (wmm_place (first_wmm ds) ws) ds) s.rules) wmm one.rules in
+    let rule_section = subst (λ ws. IsFileSection rule_key (UsesRule (wmm_place (first_wmm ds) ws) ds) s.rules) wmm one.rules in
     let rules : s.rules ≡ t.rules = section_unique rule_key (UsesRule (wmm_place (first_wmm ds) t.wmm_rules) ds) s.rules t.rules rule_section other.rules in
-    let by_wmm = subst (λ ws. IsSection collection_key (UsesCollection (rule_place (wmm_place (first_wmm ds) ws) (first_wmm ds + 8 * length ws) s.rules) ds) s.collections) wmm one.collections in
-    let by_rules = subst (λ rs. IsSection collection_key (UsesCollection (rule_place (wmm_place (first_wmm ds) t.wmm_rules) (first_wmm ds + 8 * length t.wmm_rules) rs) ds) s.collections) rules by_wmm in
+    let by_wmm = subst (λ ws. IsFileSection collection_key (UsesCollection (place_of_rule (wmm_place (first_wmm ds) ws) (first_wmm ds + 8 * length ws) s.rules) ds) s.collections) wmm one.collections in
+    let by_rules = subst (λ rs. IsFileSection collection_key (UsesCollection (place_of_rule (wmm_place (first_wmm ds) t.wmm_rules) (first_wmm ds + 8 * length t.wmm_rules) rs) ds) s.collections) rules by_wmm in
     let collections : s.collections ≡ t.collections = section_unique collection_key _ s.collections t.collections by_rules other.collections in
     λ i. record { wmm_rules = wmm i; rules = rules i; collections = collections i }
 

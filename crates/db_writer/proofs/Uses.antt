@@ -6,11 +6,11 @@ use Rattle.freq_range.specs.declared.rule.Rule.{Rule}
 use Rattle.freq_range.specs.declared.wmm.Wmm.{Wmm}
 use Rattle.rule_tables.specs.Databases.{IsDomain}
 use Rattle.rule_tables.specs.declared.domain.Domain.{Domain}
-use Rattle.db_writer.specs.Order.{IsSection}
+use Rattle.db_writer.specs.Order.{IsFileSection}
 use Rattle.db_writer.specs.Records.{wmm_bytes, rule_key, rule_words, rule_length, collection_words}
-use Rattle.db_writer.specs.LaidOut.{UsesWmm, UsesRule, UsesCollection, HasRule, rule_record, collection_record}
-use Rattle.db_writer.specs.Gathered.{wmm_of, wmm_of_domain, records_of_domain, HasWmmAmong}
-use Rattle.db_writer.specs.Filed.{wmm_at_in, AreFiled}
+use Rattle.db_writer.specs.LaidOut.{UsesWmm, UsesRule, UsesCollection, IsRuleInUse, rule_record, collection_record}
+use Rattle.db_writer.specs.inner.Gathered.{wmm_rules_of_rule, wmm_of_domain, records_of_domain, HasWmmAmong}
+use Rattle.db_writer.specs.inner.Filed.{wmm_at_in, AreFiled}
 use Rattle.db_writer.specs.declared.gather.RuleSections.{RuleSections}
 use Rattle.db_writer.specs.declared.records.CollectionRecord.{CollectionRecord}
 use Rattle.db_writer.specs.declared.records.RuleRecord.{RuleRecord}
@@ -18,7 +18,7 @@ use Rattle.db_writer.proofs.Members.{from_flat_map, into_flat_map, from_map, int
 
 -- a section of what was gathered is one of what is in use
 pub section_of_used : {X : Type 0} (key : X → List ℕ) (gathered xs : List X) (InUse : X → Type 0) → ((x : X) → Contains gathered x ↔ InUse x) →
-    IsSection key (Contains gathered) xs → IsSection key InUse xs
+    IsFileSection key (Contains gathered) xs → IsFileSection key InUse xs
 section_of_used key gathered xs InUse same section = record {
   ascending = section.ascending;
   exactly = λ x. ((λ h. (same x).0 ((section.exactly x).0 h)), (λ h. (section.exactly x).1 ((same x).1 h)));
@@ -34,12 +34,12 @@ pub wmm_used : (ds : List Domain) (bytes : List ℕ) → Contains (flat_map wmm_
 wmm_used ds bytes = (
   (λ h.
       let (d, among, has) = from_flat_map wmm_of_domain ds bytes h in
-      let (r, has_rule, has_wmm) = from_flat_map wmm_of d.rules bytes has in
+      let (r, has_rule, has_wmm) = from_flat_map wmm_rules_of_rule d.rules bytes has in
       let (w, is, same) = from_option r r.wmm bytes refl has_wmm in
       (r, w, (d, among, has_rule), is, same)),
   (λ (r, w, (d, among, has_rule), is, same).
-      let here : Contains (wmm_of r) bytes = rw is (zero, omega arith, sym same) in
-      into_flat_map wmm_of_domain ds d bytes among (into_flat_map wmm_of d.rules r bytes has_rule here)),
+      let here : Contains (wmm_rules_of_rule r) bytes = rw is (zero, omega arith, sym same) in
+      into_flat_map wmm_of_domain ds d bytes among (into_flat_map wmm_rules_of_rule d.rules r bytes has_rule here)),
 )
 
 -- the records of rules that are gathered are those in use
@@ -60,19 +60,19 @@ collections_used rule_at ds c = (
   (λ (d, among, same). subst (Contains (map (collection_record rule_at) ds)) (sym same) (into_map (collection_record rule_at) ds d among)),
 )
 
-has_wmm : (r : Rule) (o : Option Wmm) (ds : List Domain) (wmm_rules : List (List ℕ)) → r.wmm ≡ o → HasRule ds r → IsSection (λ bytes. bytes) (UsesWmm ds) wmm_rules →
+has_wmm : (r : Rule) (o : Option Wmm) (ds : List Domain) (wmm_rules : List (List ℕ)) → r.wmm ≡ o → IsRuleInUse ds r → IsFileSection (λ bytes. bytes) (UsesWmm ds) wmm_rules →
     IfSome o (λ w. Contains wmm_rules (wmm_bytes w))
 has_wmm r None ds wmm_rules e has section = tt
 has_wmm r (Some w) ds wmm_rules e has section = (section.exactly (wmm_bytes w)).1 (r, w, has, e, refl)
 
 -- the WMM rule of each rule is in the section
-pub all_have_wmm : (ds : List Domain) (wmm_rules : List (List ℕ)) → IsSection (λ bytes. bytes) (UsesWmm ds) wmm_rules → All (λ d. All (HasWmmAmong wmm_rules) d.rules) ds
+pub all_have_wmm : (ds : List Domain) (wmm_rules : List (List ℕ)) → IsFileSection (λ bytes. bytes) (UsesWmm ds) wmm_rules → All (λ d. All (HasWmmAmong wmm_rules) d.rules) ds
 all_have_wmm ds wmm_rules section = λ k d within j r lt.
     has_wmm _ _ ds wmm_rules refl (get_or ds k d, Contains-get_or ds k d within, Contains-get_or (get_or ds k d).rules j r lt) section
 
 -- the record of each rule is in its section
-pub all_filed : (ds : List Domain) (s : RuleSections) → IsSection (λ bytes. bytes) (UsesWmm ds) s.wmm_rules.records.items →
-    IsSection rule_key (UsesRule (wmm_at_in s) ds) s.rules.records.items → All (AreFiled s) ds
+pub all_filed : (ds : List Domain) (s : RuleSections) → IsFileSection (λ bytes. bytes) (UsesWmm ds) s.wmm_rules.records.items →
+    IsFileSection rule_key (UsesRule (wmm_at_in s) ds) s.rules.records.items → All (AreFiled s) ds
 all_filed ds s wmm_section rule_section = λ k d within. record {
   each = λ j r lt. record {
     wmm = all_have_wmm ds s.wmm_rules.records.items wmm_section k d within j r lt;
@@ -105,7 +105,7 @@ wmm_of_one (Some w) = omega arith
 wmm_of_few : (d : Domain) → IsDomain d → length (wmm_of_domain d) ≤ 128
 wmm_of_few d domain =
     let few = domain.rules.few in
-    let all = flat_map-few wmm_of 1 d.rules (λ j r lt. wmm_of_one _) in
+    let all = flat_map-few wmm_rules_of_rule 1 d.rules (λ j r lt. wmm_of_one _) in
     omega (arith, few, all)
 
 pub wmm-few : (ds : List Domain) → All IsDomain ds → length (flat_map wmm_of_domain ds) ≤ length ds * 128

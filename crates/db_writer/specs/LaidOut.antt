@@ -3,9 +3,9 @@
 use Rattle.std.specs.Prelude.{◌≡◌, ℕ, ◌+◌, ◌-◌, ◌*◌, ◌<◌, ◌≤◌, List, ◌∷◌, ◌++◌, length, map, take, flat_map, sum_by, Contains, Some, option_map}
 use Rattle.freq_range.specs.declared.rule.Rule.{Rule}
 use Rattle.freq_range.specs.declared.wmm.Wmm.{Wmm}
-use Rattle.rule_tables.specs.FileFormat.{region_number}
+use Rattle.rule_tables.specs.Regions.{region_number}
 use Rattle.rule_tables.specs.declared.domain.Domain.{Domain}
-use Rattle.db_writer.specs.Order.{IsSection, place_in}
+use Rattle.db_writer.specs.Order.{IsFileSection, place_in}
 use Rattle.db_writer.specs.Records.{be16, be32, wmm_bytes, flags_byte, rule_key, rule_words, rule_bytes, collection_key, collection_words, collection_bytes}
 use Rattle.db_writer.specs.declared.records.CollectionRecord.{CollectionRecord}
 use Rattle.db_writer.specs.declared.records.RuleRecord.{RuleRecord}
@@ -28,8 +28,8 @@ rule_record wmm_at r = record {
   wmm = option_map wmm_at r.wmm;
 }
 
-unfoldable pub rule_place : (Wmm → ℕ) → ℕ → List RuleRecord → Rule → ℕ
-rule_place wmm_at first rules r = place_in rule_key rule_words first rules (rule_record wmm_at r)
+unfoldable pub place_of_rule : (Wmm → ℕ) → ℕ → List RuleRecord → Rule → ℕ
+place_of_rule wmm_at first rules r = place_in rule_key rule_words first rules (rule_record wmm_at r)
 
 -- The record of the collection of the domain d, where `rule_at` tells where rules stand; and where it stands itself.
 unfoldable pub collection_record : (Rule → ℕ) → Domain → CollectionRecord
@@ -39,14 +39,14 @@ unfoldable pub collection_place : (Rule → ℕ) → ℕ → List CollectionReco
 collection_place rule_at first collections d = place_in collection_key collection_words first collections (collection_record rule_at d)
 
 -- what is in use: a rule of some domain, and what rules and domains need
-abbrev pub HasRule : List Domain → Rule → Type 0
-HasRule ds r = (d : Domain) × Contains ds d × Contains d.rules r
+abbrev pub IsRuleInUse : List Domain → Rule → Type 0
+IsRuleInUse ds r = (d : Domain) × Contains ds d × Contains d.rules r
 
 abbrev pub UsesWmm : List Domain → List ℕ → Type 0
-UsesWmm ds bytes = (r : Rule) × (w : Wmm) × HasRule ds r × (r.wmm ≡ Some w) × (bytes ≡ wmm_bytes w)
+UsesWmm ds bytes = (r : Rule) × (w : Wmm) × IsRuleInUse ds r × (r.wmm ≡ Some w) × (bytes ≡ wmm_bytes w)
 
 abbrev pub UsesRule : (Wmm → ℕ) → List Domain → RuleRecord → Type 0
-UsesRule wmm_at ds x = (r : Rule) × HasRule ds r × (x ≡ rule_record wmm_at r)
+UsesRule wmm_at ds x = (r : Rule) × IsRuleInUse ds r × (x ≡ rule_record wmm_at r)
 
 abbrev pub UsesCollection : (Rule → ℕ) → List Domain → CollectionRecord → Type 0
 UsesCollection rule_at ds c = (d : Domain) × Contains ds d × (c ≡ collection_record rule_at d)
@@ -73,30 +73,30 @@ abbrev pub wmm_at : List Domain → Sections → Wmm → ℕ
 wmm_at ds s = wmm_place (first_wmm ds) s.wmm_rules
 
 abbrev pub rule_at : List Domain → Sections → Rule → ℕ
-rule_at ds s = rule_place (wmm_at ds s) (first_rule ds s) s.rules
+rule_at ds s = place_of_rule (wmm_at ds s) (first_rule ds s) s.rules
 
 abbrev pub collection_at : List Domain → Sections → Domain → ℕ
 collection_at ds s = collection_place (rule_at ds s) (first_collection ds s) s.collections
 
 -- Each section is the ascending list, without repeats, of the records in use.
-pub record AreSections (ds : List Domain) (s : Sections) : Type 0 where
-  pub wmm_rules : IsSection (λ bytes. bytes) (UsesWmm ds) s.wmm_rules
-  pub rules : IsSection rule_key (UsesRule (wmm_at ds s) ds) s.rules
-  pub collections : IsSection collection_key (UsesCollection (rule_at ds s) ds) s.collections
+pub record AreFileSections (ds : List Domain) (s : Sections) : Type 0 where
+  pub wmm_rules : IsFileSection (λ bytes. bytes) (UsesWmm ds) s.wmm_rules
+  pub rules : IsFileSection rule_key (UsesRule (wmm_at ds s) ds) s.rules
+  pub collections : IsFileSection collection_key (UsesCollection (rule_at ds s) ds) s.collections
 
 -- a domain's entry: its code, and a pointer to its collection
-unfoldable pub entry : (Domain → ℕ) → Domain → List ℕ
-entry collection_at d = d.alpha2.a ∷ d.alpha2.b ∷ be16 (collection_at d)
+unfoldable pub domain_entry : (Domain → ℕ) → Domain → List ℕ
+domain_entry collection_at d = d.alpha2.a ∷ d.alpha2.b ∷ be16 (collection_at d)
 
 -- the whole file: header, entries, four zero bytes, WMM rules, rules, collections
 unfoldable pub file : List Domain → Sections → List ℕ
 file ds s =
-    be32 0x52474442 ++ (be32 20 ++ (flat_map (entry (collection_at ds s)) ds ++ (be32 0
+    be32 0x52474442 ++ (be32 20 ++ (flat_map (domain_entry (collection_at ds s)) ds ++ (be32 0
     ++ (flat_map (λ bytes. bytes) s.wmm_rules ++ (flat_map rule_bytes s.rules ++ flat_map collection_bytes s.collections)))))
 
 -- The bytes are the file of the database.
 abbrev pub LaidOut : List Domain → List ℕ → Type 0
-LaidOut ds bytes = (s : Sections) × AreSections ds s × (bytes ≡ file ds s)
+LaidOut ds bytes = (s : Sections) × AreFileSections ds s × (bytes ≡ file ds s)
 
 -- the place of the last collection, in words: behind all others; of a database without domains, where it would be
 abbrev pub last_collection : List Domain → Sections → ℕ
@@ -104,11 +104,11 @@ last_collection ds s = first_collection ds s + sum_by collection_words (take (le
 
 -- The last collection of the database's file stands at this place, in words.
 abbrev pub EndsIn : List Domain → ℕ → Type 0
-EndsIn ds words = (s : Sections) × AreSections ds s × (words ≡ last_collection ds s)
+EndsIn ds words = (s : Sections) × AreFileSections ds s × (words ≡ last_collection ds s)
 
 -- A pointer of 16 bits can name the last collection, and so each record.
-abbrev pub IsWithin : List Domain → Type 0
-IsWithin ds = (words : ℕ) × EndsIn ds words × (words ≤ 65535)
+abbrev pub IsWithinReach : List Domain → Type 0
+IsWithinReach ds = (words : ℕ) × EndsIn ds words × (words ≤ 65535)
 
 -- why there is no file
 abbrev pub IsWriteFault : List Domain → WriteFault → Type 0

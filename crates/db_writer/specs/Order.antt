@@ -9,7 +9,7 @@ abbrev pub precedes : List ℕ → List ℕ → Bool
 precedes xs ys = is_lt (slice_cmp nat_cmp xs ys)
 
 -- The ascending list, without repeats, of the records in use, where a key of each record gives the order.
-pub record IsSection {X : Type 0} (key : X → List ℕ) (InUse : X → Type 0) (xs : List X) : Type 0 where
+pub record IsFileSection {X : Type 0} (key : X → List ℕ) (InUse : X → Type 0) (xs : List X) : Type 0 where
   pub ascending : AllPairs (λ x y. IsTrue (precedes (key x) (key y))) xs
   pub exactly : (x : X) → Contains xs x ↔ InUse x
 

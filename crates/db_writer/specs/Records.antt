@@ -61,11 +61,11 @@ collection_key c = c.region ∷ c.rules
 
 -- The record of a collection: its length, how many rules it has, the region, a zero byte, the pointers, and two zero bytes
 -- where they are of an odd number.
-unfoldable pub padding : ℕ → List ℕ
-padding count = if count % 2 == 0 then [] else be16 0
+unfoldable pub collection_padding : ℕ → List ℕ
+collection_padding count = if count % 2 == 0 then [] else be16 0
 
 unfoldable pub collection_bytes : CollectionRecord → List ℕ
-collection_bytes c = 3 ∷ length c.rules ∷ c.region ∷ 0 ∷ (flat_map be16 c.rules ++ padding (length c.rules))
+collection_bytes c = 3 ∷ length c.rules ∷ c.region ∷ 0 ∷ (flat_map be16 c.rules ++ collection_padding (length c.rules))
 
 -- one word, and one for each two of the pointers, the last one perhaps alone
 unfoldable pub collection_words : CollectionRecord → ℕ

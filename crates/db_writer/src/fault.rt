@@ -1,6 +1,6 @@
 //! Why a database has no layout.
 
-use reg_base::OutOfMemory;
+use reg_lists::OutOfMemory;
 use thiserror::Error;
 
 /// Why a database has no layout.

@@ -3,17 +3,17 @@
 ghost use Rattle.std.specs.Prelude.{◌≡◌, ℕ, ◌≤◌, ◌++◌, All, IfOk, IfSome, OnOk, Contains, flat_map, length, map, option_map};
 ghost use Rattle.freq_range.specs.Valid.{IsValidEntry, IsValidWmm, IsValidRule};
 ghost use Rattle.rule_tables.specs.Databases.{IsDomain};
-ghost use Rattle.rule_tables.specs.FileFormat.{region_number};
+ghost use Rattle.rule_tables.specs.Regions.{region_number};
 ghost use Rattle.db_writer.specs.Records.{wmm_entry_bytes, wmm_bytes, bit, flags_byte};
 ghost use Rattle.db_writer.specs.LaidOut.{wmm_place, rule_record, collection_record};
-ghost use Rattle.db_writer.specs.Gathered.{wmm_of, wmm_of_domain, records_of_domain, HasWmmAmong};
-ghost use Rattle.db_writer.specs.Filed.{rule_at_in, IsFiled, AreFiled};
+ghost use Rattle.db_writer.specs.inner.Gathered.{wmm_rules_of_rule, wmm_of_domain, records_of_domain, HasWmmAmong};
+ghost use Rattle.db_writer.specs.inner.Filed.{rule_at_in, IsFiled, AreFiled};
 
 use crate::records::{CollectionRecord, Places, RuleRecord, WmmRecord};
 use crate::section::{Section, place_of};
 use byteorder::{BigEndian, ByteOrder};
 use freq_range::{Rule, RuleFlags, Wmm, WmmEntry};
-use reg_base::OutOfMemory;
+use reg_lists::OutOfMemory;
 use rule_tables::{Domain, Region};
 use std::alloc::Global;
 
@@ -66,7 +66,7 @@ fn wmm_record(wmm: &Wmm) -> WmmRecord
 /// Adds the WMM rule of the rule, if there is one.
 fn add_wmm_rule(records: &mut Vec<WmmRecord>, rule: &Rule) -> Result<(), OutOfMemory>
     requires { IsValidRule rule.now }
-    ensures { OnOk result (records.new.items ≡ records.old.items ++ wmm_of rule.now) }
+    ensures { OnOk result (records.new.items ≡ records.old.items ++ wmm_rules_of_rule rule.now) }
 {
     if let Some(wmm) = &rule.wmm {
         records.push(wmm_record(wmm))?;
@@ -77,7 +77,7 @@ fn add_wmm_rule(records: &mut Vec<WmmRecord>, rule: &Rule) -> Result<(), OutOfMe
 /// Adds the WMM rules of the rules.
 fn add_wmm_rules(records: &mut Vec<WmmRecord>, rules: &[Rule]) -> Result<(), OutOfMemory>
     requires { All IsValidRule rules.now }
-    ensures { OnOk result (records.new.items ≡ records.old.items ++ flat_map wmm_of rules.now) }
+    ensures { OnOk result (records.new.items ≡ records.old.items ++ flat_map wmm_rules_of_rule rules.now) }
 {
     for rule in rules {
         add_wmm_rule(records, rule)?;
@@ -182,7 +182,7 @@ pub fn rules_of(
 }
 
 /// The place of a rule.
-#[tactic(auto, unfolding(crate::specs::LaidOut::rule_place))]
+#[tactic(auto, unfolding(crate::specs::LaidOut::place_of_rule))]
 fn rule_place(rule: &Rule, sections: &RuleSections) -> u64
     requires valid { IsValidRule rule.now }
     requires there { IsFiled sections.now rule.now }

@@ -1,14 +1,15 @@
 //! The pieces of a database file.
 
 ghost use Rattle.std.specs.Prelude.{◌≡◌, ℕ, ◌+◌, ◌*◌, ◌≤◌, ◌++◌, ◌∷◌, [], All, IfSome, List, OnOk, flat_map, length, refl};
-ghost use Rattle.db_writer.specs.Records.{be16, be32, rule_key, rule_length, rule_end, rule_words, rule_bytes, padding, collection_key, collection_words, collection_bytes};
-ghost use Rattle.db_writer.specs.Fits.{RuleFits, CollectionFits};
-ghost use Rattle.db_writer.specs.Keys.{rule_by_key, rule_told_by_key, collection_by_key, collection_told_by_key};
+ghost use Rattle.db_writer.specs.Records.{be16, be32, rule_key, rule_length, rule_end, rule_words, rule_bytes, collection_padding, collection_key, collection_words, collection_bytes};
+ghost use Rattle.db_writer.specs.inner.Fits.{RuleFits, CollectionFits};
+ghost use Rattle.db_writer.specs.inner.Keys.{rule_by_key, rule_told_by_key, collection_by_key, collection_told_by_key};
 
 use crate::records::{CollectionRecord, RuleRecord, WmmRecord};
 use crate::section::Record;
 use byteorder::{BigEndian, ByteOrder};
-use reg_base::{Bytes, OutOfMemory};
+use reg_base::Bytes;
+use reg_lists::OutOfMemory;
 
 /// Writes a number in two bytes, the higher first.
 #[tactic(auto, unfolding(crate::specs::Records::be16))]
@@ -82,9 +83,9 @@ fn put_pointers(out: &mut Bytes, places: &[u64]) -> Result<(), OutOfMemory>
 }
 
 /// Fills so many pointers up to a whole word.
-#[tactic(auto, unfolding(crate::specs::Records::padding, crate::specs::Records::be16))]
+#[tactic(auto, unfolding(crate::specs::Records::collection_padding, crate::specs::Records::be16))]
 fn put_padding(out: &mut Bytes, count: usize) -> Result<(), OutOfMemory>
-    ensures { OnOk result (out.new ≡ out.old ++ padding count) }
+    ensures { OnOk result (out.new ≡ out.old ++ collection_padding count) }
 {
     if count % 2 == 0 {
         return Ok(());

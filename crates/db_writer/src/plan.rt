@@ -3,17 +3,17 @@
 ghost use Rattle.std.specs.Prelude.{◌≡◌, ◌+◌, ◌*◌, ◌^◌, ◌≤◌, All, IfOk, List, length, sum_by};
 ghost use Rattle.rule_tables.specs.Databases.{IsDb, IsDomain};
 ghost use Rattle.rule_tables.specs.declared.domain.Domain.{Domain};
-ghost use Rattle.db_writer.specs.Order.{IsSection};
+ghost use Rattle.db_writer.specs.Order.{IsFileSection};
 ghost use Rattle.db_writer.specs.Records.{rule_key, rule_words, collection_key, collection_words};
 ghost use Rattle.db_writer.specs.LaidOut.{UsesWmm, UsesRule, UsesCollection, wmm_place, first_wmm, last_collection};
-ghost use Rattle.db_writer.specs.Gathered.{HasWmmAmong};
-ghost use Rattle.db_writer.specs.Filed.{rule_at_in, AreFiled};
-ghost use Rattle.db_writer.specs.Planned.{IsPlanOf, IsSmall, sections_in};
+ghost use Rattle.db_writer.specs.inner.Gathered.{HasWmmAmong};
+ghost use Rattle.db_writer.specs.inner.Filed.{rule_at_in, AreFiled};
+ghost use Rattle.db_writer.specs.inner.Planned.{IsPlanOf, IsSmall, sections_in};
 
 use crate::gather::{RuleSections, collections_of, rules_of, wmm_rules_of};
 use crate::records::{CollectionRecord, RuleRecord, WmmRecord};
 use crate::section::{Section, section_of, words_of};
-use reg_base::OutOfMemory;
+use reg_lists::OutOfMemory;
 use rule_tables::Domain;
 use std::alloc::Global;
 
@@ -29,7 +29,7 @@ fn wmm_section(alloc: Global, domains: &[Domain]) -> Result<Section<WmmRecord>, 
     requires valid { All IsDomain domains.now }
     requires few { length domains.now ≤ 65536 }
     ensures first { IfOk result (λ s. s.first ≡ first_wmm domains.now) }
-    ensures section { IfOk result (λ s. IsSection (λ bytes. bytes) (UsesWmm domains.now) s.records.items) }
+    ensures section { IfOk result (λ s. IsFileSection (λ bytes. bytes) (UsesWmm domains.now) s.records.items) }
     ensures few { IfOk result (λ s. length s.records.items ≤ 2 ^ 23) }
 {
     let records = wmm_rules_of(alloc, domains)?;
@@ -49,7 +49,7 @@ fn rule_section(
     requires there { All (λ d. All (HasWmmAmong wmm_rules.now.records.items) d.rules) domains.now }
     requires low { first ≤ 2 ^ 32 }
     ensures first { IfOk result (λ s. s.first ≡ first) }
-    ensures section { IfOk result (λ s. IsSection rule_key (UsesRule (wmm_place wmm_rules.now.first wmm_rules.now.records.items) domains.now) s.records.items) }
+    ensures section { IfOk result (λ s. IsFileSection rule_key (UsesRule (wmm_place wmm_rules.now.first wmm_rules.now.records.items) domains.now) s.records.items) }
     ensures few { IfOk result (λ s. length s.records.items ≤ 2 ^ 23) }
 {
     let records = rules_of(alloc, domains, wmm_rules)?;
@@ -69,7 +69,7 @@ fn collection_section(
     requires there { All (AreFiled rules.now) domains.now }
     requires low { first ≤ 2 ^ 32 }
     ensures first { IfOk result (λ s. s.first ≡ first) }
-    ensures section { IfOk result (λ s. IsSection collection_key (UsesCollection (rule_at_in rules.now) domains.now) s.records.items) }
+    ensures section { IfOk result (λ s. IsFileSection collection_key (UsesCollection (rule_at_in rules.now) domains.now) s.records.items) }
     ensures few { IfOk result (λ s. length s.records.items ≤ 2 ^ 23) }
     ensures short { IfOk result (λ s. All (λ c. collection_words c ≤ 65) s.records.items) }
 {

@@ -6,7 +6,8 @@ ghost use Rattle.std.specs.Cmp.{unsigned_ties, partial_equiv_from_equiv, partial
 ghost use Rattle.std.specs.Cmp.Lexicographic.{pointwise, slice_cmp, nat_list_cmp_total, nat_list_eq_equiv, lists_ties};
 ghost use Rattle.std.specs.Ordering.{nat_cmp, as_partial_cmp};
 
-use reg_base::{Bytes, OutOfMemory};
+use reg_base::Bytes;
+use reg_lists::OutOfMemory;
 use std::alloc::Global;
 use std::cmp::Ordering;
 use std::marker::Model;

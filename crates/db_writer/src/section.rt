@@ -3,10 +3,11 @@
 ghost use Rattle.std.specs.Prelude.{◌≡◌, ◌↔◌, ℕ, ◌+◌, ◌*◌, ◌^◌, ◌≤◌, ◌++◌, List, length, All, AllPairs, Contains, IfOk, IsTrue, OnOk, flat_map, sum_by};
 ghost use Rattle.std.specs.Cmp.Lexicographic.{slice_cmp};
 ghost use Rattle.std.specs.Ordering.{nat_cmp};
-ghost use Rattle.db_writer.specs.Order.{IsSection, place_in, precedes};
-ghost use Rattle.db_writer.specs.Places.{places_from, IsPlaced};
+ghost use Rattle.db_writer.specs.Order.{IsFileSection, place_in, precedes};
+ghost use Rattle.db_writer.specs.inner.Places.{places_from, ArePlacedFrom};
 
-use reg_base::{Bytes, OutOfMemory};
+use reg_base::Bytes;
+use reg_lists::OutOfMemory;
 use std::alloc::Global;
 
 /// A record of a section.
@@ -55,7 +56,7 @@ pub fn words_of<T: Record>(records: &[T]) -> u64
 
 /// Puts the records in ascending order, and drops repeats.
 fn put_in_order<T: Record + Drop>(records: &mut Vec<T>)
-    ensures section { IsSection T.key (Contains records.old.items) records.new.items }
+    ensures section { IsFileSection T.key (Contains records.old.items) records.new.items }
     ensures few { length records.new.items ≤ length records.old.items }
 {
     records.sort_unstable();
@@ -70,7 +71,7 @@ pub struct Section<T: Record> {
     /// The records in ascending order, each once.
     pub records: Vec<T>,
     places: Vec<u64>,
-    ghost placed: { IsPlaced T.key T.words first records.items places.items },
+    ghost placed: { ArePlacedFrom T.key T.words first records.items places.items },
 }
 
 /// The section of these records, of which the first one stands at `first`.
@@ -83,7 +84,7 @@ pub fn section_of<T: Record + Drop>(
     requires few { length records.items ≤ 2 ^ 32 }
     requires low { first ≤ 2 ^ 40 }
     ensures first { IfOk result (λ s. s.first ≡ first) }
-    ensures section { IfOk result (λ s. IsSection T.key (Contains records.items) s.records.items) }
+    ensures section { IfOk result (λ s. IsFileSection T.key (Contains records.items) s.records.items) }
     ensures few { IfOk result (λ s. length s.records.items ≤ length records.items) }
 {
     let mut records = records;

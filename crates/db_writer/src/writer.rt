@@ -3,18 +3,16 @@
 ghost use Rattle.std.specs.Prelude.{◌≡◌, ◌≤◌, ◌++◌, All, IfErr, IfOk, OnOk, flat_map};
 ghost use Rattle.rule_tables.specs.Databases.{IsDb};
 ghost use Rattle.rule_tables.specs.FileFormat.{ReadsAs};
-ghost use Rattle.db_writer.specs.LaidOut.{entry, file, LaidOut, IsWithin, IsWriteFault};
-ghost use Rattle.db_writer.specs.Planned.{IsPlanOf, IsSmall, IsReady, CanBeWritten, planned_collection, planned_file};
-
-#[cfg(test)]
-mod tests;
+ghost use Rattle.db_writer.specs.LaidOut.{domain_entry, file, LaidOut, IsWithinReach, IsWriteFault};
+ghost use Rattle.db_writer.specs.inner.Planned.{IsPlanOf, IsSmall, IsDomainPlanned, CanBeWritten, planned_collection, planned_file};
 
 use crate::fault::WriteFault;
 use crate::gather::collection_record;
 use crate::pieces::{put_pointer, put_u32};
 use crate::plan::{Plan, last_collection, plan_of};
 use crate::section::{place_of, put_records};
-use reg_base::{Bytes, OutOfMemory};
+use reg_base::Bytes;
+use reg_lists::OutOfMemory;
 use rule_tables::{Db, Domain};
 use std::alloc::Global;
 
@@ -34,7 +32,7 @@ const REACH: u64 = 65535;
 pub fn layout(alloc: Global, db: &Db) -> Result<Bytes, WriteFault>
     ensures file { IfOk result (LaidOut db.now) }
     ensures reads { IfOk result (λ bytes. ReadsAs bytes db.now) }
-    ensures fits { OnOk result (IsWithin db.now) }
+    ensures fits { OnOk result (IsWithinReach db.now) }
     ensures cause { IfErr result (IsWriteFault db.now) }
 {
     let bytes = file_of(alloc, db.as_slice())?;
@@ -45,7 +43,7 @@ pub fn layout(alloc: Global, db: &Db) -> Result<Bytes, WriteFault>
 fn file_of(alloc: Global, domains: &[Domain]) -> Result<Bytes, WriteFault>
     requires { IsDb domains.now }
     ensures file { IfOk result (LaidOut domains.now) }
-    ensures fits { OnOk result (IsWithin domains.now) }
+    ensures fits { OnOk result (IsWithinReach domains.now) }
     ensures cause { IfErr result (IsWriteFault domains.now) }
 {
     let plan = plan_of(alloc, domains)?;
@@ -59,7 +57,7 @@ fn file_of(alloc: Global, domains: &[Domain]) -> Result<Bytes, WriteFault>
 }
 
 /// Writes the whole file.
-#[tactic(auto, unfolding(crate::specs::Planned::planned_file))]
+#[tactic(auto, unfolding(crate::specs::inner::Planned::planned_file))]
 fn put_file(
     out: &mut Bytes,
     alloc: Global,
@@ -86,8 +84,8 @@ fn put_entries(
     domains: &[Domain],
     plan: &Plan,
 ) -> Result<(), OutOfMemory>
-    requires { All (IsReady plan.now) domains.now }
-    ensures { OnOk result (out.new ≡ out.old ++ flat_map (entry (planned_collection plan.now)) domains.now) }
+    requires { All (IsDomainPlanned plan.now) domains.now }
+    ensures { OnOk result (out.new ≡ out.old ++ flat_map (domain_entry (planned_collection plan.now)) domains.now) }
 {
     for domain in domains {
         put_entry(out, alloc, domain, plan)?;
@@ -96,15 +94,15 @@ fn put_entries(
 }
 
 /// Writes the entry of a domain: its code, and a pointer to its collection.
-#[tactic(auto, unfolding(crate::specs::LaidOut::entry))]
+#[tactic(auto, unfolding(crate::specs::LaidOut::domain_entry))]
 fn put_entry(
     out: &mut Bytes,
     alloc: Global,
     domain: &Domain,
     plan: &Plan,
 ) -> Result<(), OutOfMemory>
-    requires { IsReady plan.now domain.now }
-    ensures { OnOk result (out.new ≡ out.old ++ entry (planned_collection plan.now) domain.now) }
+    requires { IsDomainPlanned plan.now domain.now }
+    ensures { OnOk result (out.new ≡ out.old ++ domain_entry (planned_collection plan.now) domain.now) }
 {
     let place = place_of_collection(alloc, domain, plan)?;
     out.push(domain.alpha2.a)?;
@@ -116,7 +114,7 @@ fn put_entry(
 /// The place of the collection of a domain, in words.
 #[tactic(auto, unfolding(crate::specs::LaidOut::collection_place))]
 fn place_of_collection(alloc: Global, domain: &Domain, plan: &Plan) -> Result<u64, OutOfMemory>
-    requires { IsReady plan.now domain.now }
+    requires { IsDomainPlanned plan.now domain.now }
     ensures { IfOk result (λ place. place ≡ planned_collection plan.now domain.now) }
 {
     let record = collection_record(alloc, domain, &plan.rules)?;

@@ -3,19 +3,19 @@ use Rattle.std.proofs.Common.{◌≡◌, ℕ, zero, suc, ◌+◌, ◌≤◌, ◌
 use Rattle.std.proofs.lemmas.List.{length-map, map-append, get_or-map, get_or_default, take_more}
 use Rattle.std.proofs.lemmas.List.Elements.{All-push}
 use Rattle.dfs_states.specs.Book.{Book}
-use Rattle.dfs_states.specs.Calls.{Call, Begin, now_of}
+use Rattle.dfs_states.specs.Calls.{Call, Begin, moment_of}
 use Rattle.dfs_states.specs.Greatest.{IsMost}
-use Rattle.dfs_states.specs.Meaning.{IsBarred, IsQuiet, IsIdle, IsState, IsAnswer, IsRunning}
-use Rattle.dfs_states.specs.StandsFor.{IsCheck, IsPlace, StandsFor}
-use Rattle.dfs_states.specs.Steps.{ArePlaces}
+use Rattle.dfs_states.specs.Meaning.{HasNonoccupancy, IsPastNonoccupancy, IsFreeSlot, IsBookState, IsBookAnswer, IsRunning}
+use Rattle.dfs_states.specs.StandsFor.{IsCheck, IsPlace, BookStandsFor}
+use Rattle.dfs_states.specs.inner.Steps.{ArePlaces}
 use Rattle.dfs_states.specs.declared.check.Check.{Check}
 use Rattle.dfs_states.specs.declared.dfs.Dfs.{Dfs}
 use Rattle.dfs_states.specs.declared.dfs.Dfs.TheVariants.{Usable}
 use Rattle.dfs_states.specs.declared.place.Place.{Place}
 
 -- the latest end of a nonoccupancy is past or present, or there is none
-pub quiet_means : (calls : List Call) (khz moment : ℕ) (until : Option ℕ) → now_of calls ≡ moment → IsMost (IsBarred calls khz) until
-    → ((n : ℕ) → until ≡ Some n → n ≤ moment) → IsQuiet calls khz
+pub quiet_means : (calls : List Call) (khz moment : ℕ) (until : Option ℕ) → moment_of calls ≡ moment → IsMost (HasNonoccupancy calls khz) until
+    → ((n : ℕ) → until ≡ Some n → n ≤ moment) → IsPastNonoccupancy calls khz
 quiet_means calls khz moment None now is over = λ until barred. absurd (is until barred)
 quiet_means calls khz moment (Some most) now is over = λ until barred.
     let below = is.none_above until barred in
@@ -23,10 +23,10 @@ quiet_means calls khz moment (Some most) now is over = λ until barred.
     omega arith
 
 -- the answer for a centre of the book
-pub answer_there : (book : Book) (channels : List ℕ) (calls : List Call) (khz : ℕ) (dfs : Dfs) (p : Place) → StandsFor book channels calls
-    → Contains book.places p → p.khz ≡ khz → (IsPlace calls p → IsState calls p.khz dfs) → IsAnswer channels calls khz dfs
+pub answer_there : (book : Book) (channels : List ℕ) (calls : List Call) (khz : ℕ) (dfs : Dfs) (p : Place) → BookStandsFor book channels calls
+    → Contains book.places p → p.khz ≡ khz → (IsPlace calls p → IsBookState calls p.khz dfs) → IsBookAnswer channels calls khz dfs
 answer_there book channels calls khz dfs p stands has same means = record {
-  of_channel = λ listed. subst (λ k. IsState calls k dfs) same (means is);
+  of_channel = λ listed. subst (λ k. IsBookState calls k dfs) same (means is);
   of_other = λ unlisted. absurd (unlisted (subst (λ ks. Contains ks khz) stands.centres (subst (λ k. Contains (map centre book.places) k) same listed)));
 }
   where
@@ -42,8 +42,8 @@ answer_there book channels calls khz dfs p stands has same means = record {
         (has.0, omega (arith, length-map book.places centre), get_or-map centre book.places has.0 p p.khz has.1 ∙ ap centre has.2)
 
 -- and for any other
-pub answer_none : (book : Book) (channels : List ℕ) (calls : List Call) (khz : ℕ) → StandsFor book channels calls
-    → ((p : Place) → Contains book.places p → p.khz ≡ khz → ⊥) → IsAnswer channels calls khz Usable
+pub answer_none : (book : Book) (channels : List ℕ) (calls : List Call) (khz : ℕ) → BookStandsFor book channels calls
+    → ((p : Place) → Contains book.places p → p.khz ≡ khz → ⊥) → IsBookAnswer channels calls khz Usable
 answer_none book channels calls khz stands none = record {
   of_channel = λ listed. absurd (apart (subst (λ ks. Contains ks khz) (sym stands.centres) listed));
   of_other = λ unlisted. refl;
@@ -88,7 +88,7 @@ places_more channels places i d p within same is are = record {
 }
 
 pub stands_opening : (channels : List ℕ) (places : List Place) (checks : List (Option Check)) → ArePlaces channels places
-    → ((slot : ℕ) → get_or checks slot None ≡ None) → StandsFor (record { moment = 0; checks = checks; places = places }) channels []
+    → ((slot : ℕ) → get_or checks slot None ≡ None) → BookStandsFor (record { moment = 0; checks = checks; places = places }) channels []
 stands_opening channels places checks are empty = record {
   due = tt;
   moment = refl;
@@ -101,7 +101,7 @@ stands_opening channels places checks are empty = record {
     nothing [] call older at = cc
     nothing (x ∷ newer) call older at = cc
 
-    idle : (slot : ℕ) → IsIdle [] slot
+    idle : (slot : ℕ) → IsFreeSlot [] slot
     idle slot = λ busy. nothing busy.runs.newer (Begin slot busy.chan busy.runs.length) busy.runs.older busy.runs.begun
 
 -- eight empty slots

@@ -4,8 +4,8 @@ use Rattle.std.proofs.lemmas.Bool.{cases_eq}
 use Rattle.std.proofs.lemmas.List.{get_or-set_same, get_or-set_other}
 use Rattle.chan_def.specs.Covered.{IsCovered}
 use Rattle.chan_def.specs.declared.definition.ChanDef.{ChanDef}
-use Rattle.dfs_states.specs.Calls.{Call, Begin, DropCheck, now_of, HasBegin}
-use Rattle.dfs_states.specs.Meaning.{IsBarred, Counts, Runs, IsBusy, IsIdle, AreDue}
+use Rattle.dfs_states.specs.Calls.{Call, Begin, DropCheck, moment_of, HasBegin}
+use Rattle.dfs_states.specs.Meaning.{HasNonoccupancy, CheckCounts, Runs, IsBusy, IsFreeSlot, EachMayBeCalled}
 use Rattle.dfs_states.specs.StandsFor.{IsPlace}
 use Rattle.dfs_states.specs.declared.place.Place.{Place}
 use Rattle.dfs_states.proofs.Checks.{IsHarmless, counts_cases, counts_outlasting, counts_before, counts_begun, counts_harmless, counts_earlier, outlasts_drop}
@@ -20,7 +20,7 @@ harmless_begin slot chan n khz other = record { no_drop = λ same. cc; no_radar 
 
 -- the flags of the other slots stay, and that of this one is told
 tells_set : (slot : ℕ) (chan : ChanDef) (n : ℕ) (calls : List Call) (khz : ℕ) (flags : List Bool) (flag : Bool) → slot < length flags
-    → AreDue (Begin slot chan n ∷ calls) → Tells (Begin slot chan n ∷ calls) khz slot flag → ((other : ℕ) → Tells calls khz other (get_or flags other false))
+    → EachMayBeCalled (Begin slot chan n ∷ calls) → Tells (Begin slot chan n ∷ calls) khz slot flag → ((other : ℕ) → Tells calls khz other (get_or flags other false))
     → (other : ℕ) → Tells (Begin slot chan n ∷ calls) khz other (get_or (set flags slot flag) other false)
 tells_set slot chan n calls khz flags flag within due here told other = elim (cases_eq other slot) [
   | inl same ↦
@@ -35,13 +35,13 @@ tells_set slot chan n calls khz flags flag within due here told other = elim (ca
 ]
 
 -- in an idle slot no check counts that isn't done
-idle_counts : (calls : List Call) (khz slot end : ℕ) → AreDue calls → IsIdle calls slot → now_of calls < end → Counts calls khz slot end → ⊥
+idle_counts : (calls : List Call) (khz slot end : ℕ) → EachMayBeCalled calls → IsFreeSlot calls slot → moment_of calls < end → CheckCounts calls khz slot end → ⊥
 idle_counts calls khz slot end due idle below counts =
     let runs = counting_runs calls khz slot end due counts below in
     idle (record { chan = runs.0; start = runs.1; end = end; runs = runs.2 })
 
 -- a check begins on another channel
-pub place_begun_apart : (slot : ℕ) (chan : ChanDef) (n : ℕ) (calls : List Call) (p : Place) → slot < length p.counts → AreDue (Begin slot chan n ∷ calls)
+pub place_begun_apart : (slot : ℕ) (chan : ChanDef) (n : ℕ) (calls : List Call) (p : Place) → slot < length p.counts → EachMayBeCalled (Begin slot chan n ∷ calls)
     → (IsCovered chan p.khz → ⊥) → IsPlace calls p → IsPlace (Begin slot chan n ∷ calls) (record p { counts = set p.counts slot false })
 place_begun_apart slot chan n calls p within due apart is =
     place_kept (Begin slot chan n) calls p (set p.counts slot false) refl (λ c same covered. cc)
@@ -63,14 +63,14 @@ place_begun_apart slot chan n calls p within due apart is =
         )
 
 -- a check begins on this channel
-pub place_begun : (slot : ℕ) (chan : ChanDef) (n : ℕ) (calls : List Call) (p : Place) → slot < length p.counts → AreDue (Begin slot chan n ∷ calls)
+pub place_begun : (slot : ℕ) (chan : ChanDef) (n : ℕ) (calls : List Call) (p : Place) → slot < length p.counts → EachMayBeCalled (Begin slot chan n ∷ calls)
     → IsCovered chan p.khz → 0 < n → IsPlace calls p → IsPlace (Begin slot chan n ∷ calls) (record p { counts = set p.counts slot true })
 place_begun slot chan n calls p within due covered some is =
     place_kept (Begin slot chan n) calls p (set p.counts slot true) refl (λ c same covered'. cc)
     (λ other end done. counts_harmless (Begin slot chan n) calls p.khz other end (harmless_begin slot chan n p.khz other))
     before (tells_set slot chan n calls p.khz p.counts true within due here is.counting) is
   where
-    before : (other end : ℕ) → end ≤ now_of calls → Counts (Begin slot chan n ∷ calls) p.khz other end → Counts calls p.khz other end
+    before : (other end : ℕ) → end ≤ moment_of calls → CheckCounts (Begin slot chan n ∷ calls) p.khz other end → CheckCounts calls p.khz other end
     before other end done counts = elim (counts_cases (Begin slot chan n) calls p.khz other end counts) [
       | inl opens ↦
           let begins : Begin slot chan n ≡ Begin other opens.chan opens.length = opens.begins in
@@ -87,10 +87,10 @@ place_begun slot chan n calls p within due covered some is =
         let ends = begun.2 in
         (λ set. counts_begun calls p.khz slot chan n end covered (omega arith), λ counts. refl)
 
-at_once : (slot : ℕ) (chan : ChanDef) (calls : List Call) (p : Place) → AreDue (Begin slot chan 0 ∷ calls) → IsCovered chan p.khz
-    → IsPlace calls p → IsPlace (Begin slot chan 0 ∷ calls) (record p { since = Some (now_of calls) })
+at_once : (slot : ℕ) (chan : ChanDef) (calls : List Call) (p : Place) → EachMayBeCalled (Begin slot chan 0 ∷ calls) → IsCovered chan p.khz
+    → IsPlace calls p → IsPlace (Begin slot chan 0 ∷ calls) (record p { since = Some (moment_of calls) })
 at_once slot chan calls p due covered is = record {
-  until = most_same (IsBarred calls p.khz) (IsBarred (Begin slot chan 0 ∷ calls) p.khz) p.until
+  until = most_same (HasNonoccupancy calls p.khz) (HasNonoccupancy (Begin slot chan 0 ∷ calls) p.khz) p.until
       (barred_older (Begin slot chan 0) calls p.khz) (barred_earlier (Begin slot chan 0) calls p.khz (λ c same covered'. cc)) is.until;
   since = record {
     holds = stands_at_once calls p.khz slot chan covered;
@@ -114,20 +114,20 @@ at_once slot chan calls p due covered is = record {
     ]
 
 -- a check of length 0 begins on this channel, and is done
-pub place_at_once : (slot : ℕ) (chan : ChanDef) (n moment : ℕ) (calls : List Call) (p : Place) → n ≡ 0 → now_of calls ≡ moment
-    → AreDue (Begin slot chan n ∷ calls) → IsCovered chan p.khz → IsPlace calls p → IsPlace (Begin slot chan n ∷ calls) (record p { since = Some moment })
+pub place_at_once : (slot : ℕ) (chan : ChanDef) (n moment : ℕ) (calls : List Call) (p : Place) → n ≡ 0 → moment_of calls ≡ moment
+    → EachMayBeCalled (Begin slot chan n ∷ calls) → IsCovered chan p.khz → IsPlace calls p → IsPlace (Begin slot chan n ∷ calls) (record p { since = Some moment })
 place_at_once slot chan n moment calls p none now due covered is =
     subst (λ m. IsPlace (Begin slot chan n ∷ calls) (record p { since = Some m })) now
-    (subst (λ l. AreDue (Begin slot chan l ∷ calls) → IsPlace (Begin slot chan l ∷ calls) (record p { since = Some (now_of calls) })) (sym none)
+    (subst (λ l. EachMayBeCalled (Begin slot chan l ∷ calls) → IsPlace (Begin slot chan l ∷ calls) (record p { since = Some (moment_of calls) })) (sym none)
     (λ due'. at_once slot chan calls p due' covered is) due)
 
 -- the slot's check is dropped: those that stand for the channel still do, and what runs elsewhere runs on
-pub place_dropped : (slot : ℕ) (calls : List Call) (p : Place) → AreDue (DropCheck slot ∷ calls) → IsPlace calls p → IsPlace (DropCheck slot ∷ calls) p
+pub place_dropped : (slot : ℕ) (calls : List Call) (p : Place) → EachMayBeCalled (DropCheck slot ∷ calls) → IsPlace calls p → IsPlace (DropCheck slot ∷ calls) p
 place_dropped slot calls p due is =
     place_kept (DropCheck slot) calls p p.counts refl (λ c same covered. cc) outlasts
     (λ other end done. counts_earlier (DropCheck slot) calls p.khz other end (λ c n same covered. cc)) told is
   where
-    outlasts : (other end : ℕ) → end ≤ now_of calls → Counts calls p.khz other end → Counts (DropCheck slot ∷ calls) p.khz other end
+    outlasts : (other end : ℕ) → end ≤ moment_of calls → CheckCounts calls p.khz other end → CheckCounts (DropCheck slot ∷ calls) p.khz other end
     outlasts other end done counts =
         counts_outlasting (DropCheck slot) calls p.khz other end
         (outlasts_drop (DropCheck slot) calls p.khz other end counts begun (λ c same covered. cc) (λ same. cc))
@@ -141,7 +141,7 @@ place_dropped slot calls p due is =
               | inl earlier ↦ earlier
               | inr same ↦
                   let lengths = same.1 in
-                  let moments : now_of counts.older ≡ now_of runs.older = ap now_of same.2 in
+                  let moments : moment_of counts.older ≡ moment_of runs.older = ap moment_of same.2 in
                   let starts = runs.starts in
                   let ends = runs.ends in
                   let ends' = counts.ends in

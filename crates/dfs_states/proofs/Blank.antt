@@ -3,23 +3,23 @@ use Rattle.std.proofs.Common.{◌≡◌, ℕ, List, Option, Some, None, ◌∙�
 use Rattle.std.proofs.lemmas.List.Elements.{All-weaker}
 use Rattle.chan_def.specs.declared.definition.ChanDef.{ChanDef}
 use Rattle.dfs_states.specs.Book.{Book}
-use Rattle.dfs_states.specs.Calls.{Call, Radar, Begin, now_of}
-use Rattle.dfs_states.specs.Meaning.{IsBarred, Counts, Stands, Runs, AreDue, AreBlank}
-use Rattle.dfs_states.specs.StandsFor.{IsCheck, IsPlace, StandsFor}
+use Rattle.dfs_states.specs.Calls.{Call, Radar, Begin, moment_of}
+use Rattle.dfs_states.specs.Meaning.{HasNonoccupancy, CheckCounts, CheckStands, Runs, EachMayBeCalled, AreBlank}
+use Rattle.dfs_states.specs.StandsFor.{IsCheck, IsPlace, BookStandsFor}
 use Rattle.dfs_states.specs.declared.check.Check.{Check}
 use Rattle.dfs_states.specs.declared.place.Place.{Place}
 use Rattle.dfs_states.proofs.Most.{most_same}
 use Rattle.dfs_states.proofs.Standing.{stands_counts}
 
-none_barred : (calls : List Call) (khz until : ℕ) → AreBlank calls → IsBarred calls khz until → ⊥
+none_barred : (calls : List Call) (khz until : ℕ) → AreBlank calls → HasNonoccupancy calls khz until → ⊥
 none_barred calls khz until blank barred =
     blank (Radar barred.chan) (record { newer = barred.newer; older = barred.older; at = barred.met })
 
-none_counts : (calls : List Call) (khz slot end : ℕ) → AreBlank calls → Counts calls khz slot end → ⊥
+none_counts : (calls : List Call) (khz slot end : ℕ) → AreBlank calls → CheckCounts calls khz slot end → ⊥
 none_counts calls khz slot end blank counts =
     blank (Begin slot counts.chan counts.length) (record { newer = counts.newer; older = counts.older; at = counts.begun })
 
-none_stands : (calls : List Call) (khz end : ℕ) → AreBlank calls → Stands calls khz end → ⊥
+none_stands : (calls : List Call) (khz end : ℕ) → AreBlank calls → CheckStands calls khz end → ⊥
 none_stands calls khz end blank stands =
     let was = stands_counts calls khz end stands in
     none_counts calls khz was.0 end blank was.1
@@ -34,15 +34,15 @@ check_alike calls others slot (Some check) blank blank' is = absurd (none_runs c
 
 place_alike : (calls others : List Call) (p : Place) → AreBlank calls → AreBlank others → IsPlace calls p → IsPlace others p
 place_alike calls others p blank blank' is = record {
-  until = most_same (IsBarred calls p.khz) (IsBarred others p.khz) p.until
+  until = most_same (HasNonoccupancy calls p.khz) (HasNonoccupancy others p.khz) p.until
       (λ until barred. absurd (none_barred calls p.khz until blank barred)) (λ until barred. absurd (none_barred others p.khz until blank' barred)) is.until;
-  since = most_same (Stands calls p.khz) (Stands others p.khz) p.since
+  since = most_same (CheckStands calls p.khz) (CheckStands others p.khz) p.since
       (λ end stands. absurd (none_stands calls p.khz end blank stands)) (λ end stands. absurd (none_stands others p.khz end blank' stands)) is.since;
   counting = λ slot chan start end runs. absurd (none_runs others slot chan start end blank' runs);
 }
 
-pub blank_alike : (book : Book) (channels : List ℕ) (calls others : List Call) → AreBlank calls → AreBlank others → AreDue others → now_of calls ≡ now_of others
-    → StandsFor book channels calls → StandsFor book channels others
+pub blank_alike : (book : Book) (channels : List ℕ) (calls others : List Call) → AreBlank calls → AreBlank others → EachMayBeCalled others → moment_of calls ≡ moment_of others
+    → BookStandsFor book channels calls → BookStandsFor book channels others
 blank_alike book channels calls others blank blank' due now stands = record {
   due = due;
   moment = stands.moment ∙ now;

@@ -2,8 +2,8 @@
 use Rattle.std.proofs.Common.{◌≡◌, ℕ, ◌+◌, List, [], ◌∷◌, ◌++◌, refl, sym, ap, subst, ◌∙◌, ◌⊎◌, inl, inr}
 use Rattle.chan_def.specs.Covered.{IsCovered}
 use Rattle.chan_def.specs.declared.definition.ChanDef.{ChanDef}
-use Rattle.dfs_states.specs.Calls.{Call, Radar, Begin, DropCheck, RegionChanged, now_of, HasBegin}
-use Rattle.dfs_states.specs.Meaning.{Spares, Counts}
+use Rattle.dfs_states.specs.Calls.{Call, Radar, Begin, DropCheck, RegionChanged, moment_of, HasBegin}
+use Rattle.dfs_states.specs.Meaning.{Spares, CheckCounts}
 use Rattle.dfs_states.proofs.Splits.{split_cons, split_more, has_newest, has_older, has_cases, none_has, radar_older, radar_cases, kept_older, kept_more}
 
 -- the call does nothing to a check of the slot, for the subchannel
@@ -18,7 +18,7 @@ pub record Opens (f : Call) (calls : List Call) (khz slot end : ℕ) : Type 0 wh
   pub length : ℕ
   pub begins : f ≡ Begin slot chan length
   pub covered : IsCovered chan khz
-  pub ends : end ≡ now_of calls + length
+  pub ends : end ≡ moment_of calls + length
 
 -- the check began before, and the newest call spares it too
 pub record Outlasts (f : Call) (calls : List Call) (khz slot end : ℕ) : Type 0 where
@@ -28,7 +28,7 @@ pub record Outlasts (f : Call) (calls : List Call) (khz slot end : ℕ) : Type 0
   pub older : List Call
   pub begun : calls ≡ newer ++ Begin slot chan length ∷ older
   pub covered : IsCovered chan khz
-  pub ends : end ≡ now_of older + length
+  pub ends : end ≡ moment_of older + length
   pub spared : Spares (f ∷ newer) khz slot
 
 pub spares_older : (f : Call) (newer : List Call) (khz slot : ℕ) → Spares (f ∷ newer) khz slot → Spares newer khz slot
@@ -60,7 +60,7 @@ spares_more f newer khz slot drop radar region spared = record {
   ];
 }
 
-pub counts_cases : (f : Call) (calls : List Call) (khz slot end : ℕ) → Counts (f ∷ calls) khz slot end
+pub counts_cases : (f : Call) (calls : List Call) (khz slot end : ℕ) → CheckCounts (f ∷ calls) khz slot end
     → Opens f calls khz slot end ⊎ Outlasts f calls khz slot end
 counts_cases f calls khz slot end counts = elim (split_cons f calls counts.newer counts.older (Begin slot counts.chan counts.length) counts.begun) [
   | inl newest ↦ inl (record {
@@ -68,7 +68,7 @@ counts_cases f calls khz slot end counts = elim (split_cons f calls counts.newer
     length = counts.length;
     begins = newest.1;
     covered = counts.covered;
-    ends = counts.ends ∙ ap (λ xs. now_of xs + counts.length) (sym newest.2);
+    ends = counts.ends ∙ ap (λ xs. moment_of xs + counts.length) (sym newest.2);
   })
   | inr older ↦ inr (record {
     newer = older.0;
@@ -82,7 +82,7 @@ counts_cases f calls khz slot end counts = elim (split_cons f calls counts.newer
   })
 ]
 
-pub counts_outlasting : (f : Call) (calls : List Call) (khz slot end : ℕ) → Outlasts f calls khz slot end → Counts (f ∷ calls) khz slot end
+pub counts_outlasting : (f : Call) (calls : List Call) (khz slot end : ℕ) → Outlasts f calls khz slot end → CheckCounts (f ∷ calls) khz slot end
 counts_outlasting f calls khz slot end lasts = record {
   newer = f ∷ lasts.newer;
   chan = lasts.chan;
@@ -94,7 +94,7 @@ counts_outlasting f calls khz slot end lasts = record {
   spared = lasts.spared;
 }
 
-pub counts_before : (f : Call) (calls : List Call) (khz slot end : ℕ) → Outlasts f calls khz slot end → Counts calls khz slot end
+pub counts_before : (f : Call) (calls : List Call) (khz slot end : ℕ) → Outlasts f calls khz slot end → CheckCounts calls khz slot end
 counts_before f calls khz slot end lasts = record {
   newer = lasts.newer;
   chan = lasts.chan;
@@ -106,8 +106,8 @@ counts_before f calls khz slot end lasts = record {
   spared = spares_older f lasts.newer khz slot lasts.spared;
 }
 
-pub counts_begun : (calls : List Call) (khz slot : ℕ) (chan : ChanDef) (length end : ℕ) → IsCovered chan khz → end ≡ now_of calls + length
-    → Counts (Begin slot chan length ∷ calls) khz slot end
+pub counts_begun : (calls : List Call) (khz slot : ℕ) (chan : ChanDef) (length end : ℕ) → IsCovered chan khz → end ≡ moment_of calls + length
+    → CheckCounts (Begin slot chan length ∷ calls) khz slot end
 counts_begun calls khz slot chan length end covered ends = record {
   newer = [];
   chan = chan;
@@ -120,7 +120,7 @@ counts_begun calls khz slot chan length end covered ends = record {
 }
 
 -- a check that counted outlasts a drop of the slot, where another has begun there since
-pub outlasts_drop : (f : Call) (calls : List Call) (khz slot end : ℕ) (counts : Counts calls khz slot end) → (f ≡ DropCheck slot → HasBegin counts.newer slot)
+pub outlasts_drop : (f : Call) (calls : List Call) (khz slot end : ℕ) (counts : CheckCounts calls khz slot end) → (f ≡ DropCheck slot → HasBegin counts.newer slot)
     → ((chan : ChanDef) → f ≡ Radar chan → IsCovered chan khz → ⊥) → (f ≡ RegionChanged → ⊥) → Outlasts f calls khz slot end
 outlasts_drop f calls khz slot end counts drop radar region = record {
   newer = counts.newer;
@@ -133,28 +133,28 @@ outlasts_drop f calls khz slot end counts drop radar region = record {
   spared = spares_more f counts.newer khz slot drop radar region counts.spared;
 }
 
-pub counts_harmless : (f : Call) (calls : List Call) (khz slot end : ℕ) → IsHarmless f khz slot → Counts calls khz slot end → Counts (f ∷ calls) khz slot end
+pub counts_harmless : (f : Call) (calls : List Call) (khz slot end : ℕ) → IsHarmless f khz slot → CheckCounts calls khz slot end → CheckCounts (f ∷ calls) khz slot end
 counts_harmless f calls khz slot end harmless counts =
     counts_outlasting f calls khz slot end
     (outlasts_drop f calls khz slot end counts (λ is. absurd (harmless.no_drop is)) harmless.no_radar harmless.same_region)
 
 -- where no check begins, those that count have counted
 pub counts_earlier : (f : Call) (calls : List Call) (khz slot end : ℕ) → ((chan : ChanDef) (length : ℕ) → f ≡ Begin slot chan length → IsCovered chan khz → ⊥)
-    → Counts (f ∷ calls) khz slot end → Counts calls khz slot end
+    → CheckCounts (f ∷ calls) khz slot end → CheckCounts calls khz slot end
 counts_earlier f calls khz slot end other counts = elim (counts_cases f calls khz slot end counts) [
   | inl opens ↦ absurd (other opens.chan opens.length opens.begins opens.covered)
   | inr lasts ↦ counts_before f calls khz slot end lasts
 ]
 
 -- radar on the subchannel leaves no check
-pub counts_no_radar : (chan : ChanDef) (calls : List Call) (khz slot end : ℕ) → IsCovered chan khz → Counts (Radar chan ∷ calls) khz slot end → ⊥
+pub counts_no_radar : (chan : ChanDef) (calls : List Call) (khz slot end : ℕ) → IsCovered chan khz → CheckCounts (Radar chan ∷ calls) khz slot end → ⊥
 counts_no_radar chan calls khz slot end covered counts = elim (counts_cases (Radar chan) calls khz slot end counts) [
   | inl opens ↦ let begins : Radar chan ≡ Begin slot opens.chan opens.length = opens.begins in cc
   | inr lasts ↦ lasts.spared.no_radar (record { chan = chan; covered = covered; met = has_newest (Radar chan) lasts.newer })
 ]
 
 -- a change of the region leaves none either
-pub counts_no_region : (calls : List Call) (khz slot end : ℕ) → Counts (RegionChanged ∷ calls) khz slot end → ⊥
+pub counts_no_region : (calls : List Call) (khz slot end : ℕ) → CheckCounts (RegionChanged ∷ calls) khz slot end → ⊥
 counts_no_region calls khz slot end counts = elim (counts_cases RegionChanged calls khz slot end counts) [
   | inl opens ↦ let begins : RegionChanged ≡ Begin slot opens.chan opens.length = opens.begins in cc
   | inr lasts ↦ lasts.spared.same_region (has_newest RegionChanged lasts.newer)

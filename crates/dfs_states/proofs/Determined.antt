@@ -2,30 +2,30 @@
 use Rattle.std.proofs.Common.{◌≡◌, ℕ, zero, suc, ◌<◌, List, [], ◌∷◌, length, get_or, Contains, Option, Some, None, arith, refl, sym, ap, ◌∙◌, ◌⊎◌, inl, inr}
 use Rattle.std.proofs.lemmas.Bool.{cases_eq}
 use Rattle.chan_def.specs.declared.definition.ChanDef.{ChanDef}
-use Rattle.dfs_states.specs.Calls.{Call, now_of}
+use Rattle.dfs_states.specs.Calls.{Call, moment_of}
 use Rattle.dfs_states.specs.Greatest.{IsGreatest}
-use Rattle.dfs_states.specs.Meaning.{IsBarred, IsQuiet, Stands, IsState, IsAnswer, IsRunning}
+use Rattle.dfs_states.specs.Meaning.{HasNonoccupancy, IsPastNonoccupancy, CheckStands, IsBookState, IsBookAnswer, IsRunning}
 use Rattle.dfs_states.specs.declared.dfs.Dfs.{Dfs}
 use Rattle.dfs_states.specs.declared.dfs.Dfs.TheVariants.{Usable, Unavailable, Available}
 use Rattle.dfs_states.proofs.Most.{greatest_same}
 use Rattle.dfs_states.proofs.Running.{runs_same}
 
 -- no subchannel is quiet within a nonoccupancy
-not_quiet : (calls : List Call) (khz until : ℕ) → IsGreatest (IsBarred calls khz) until → now_of calls < until → IsQuiet calls khz → ⊥
+not_quiet : (calls : List Call) (khz until : ℕ) → IsGreatest (HasNonoccupancy calls khz) until → moment_of calls < until → IsPastNonoccupancy calls khz → ⊥
 not_quiet calls khz until is above quiet =
     let past = quiet until is.holds in
     absurd (omega arith)
 
-one_state : (calls : List Call) (khz : ℕ) (one other : Dfs) → IsState calls khz one → IsState calls khz other → one ≡ other
+one_state : (calls : List Call) (khz : ℕ) (one other : Dfs) → IsBookState calls khz one → IsBookState calls khz other → one ≡ other
 one_state calls khz Usable Usable is is' = refl
 one_state calls khz Usable (Unavailable until) is is' = absurd (not_quiet calls khz until is'.0 is'.1 is.0)
 one_state calls khz Usable (Available since) is is' = absurd (is.1 since is'.1.holds)
 one_state calls khz (Unavailable until) Usable is is' = absurd (not_quiet calls khz until is.0 is.1 is'.0)
-one_state calls khz (Unavailable until) (Unavailable until') is is' = ap (λ n. Unavailable n) (greatest_same (IsBarred calls khz) until until' is.0 is'.0)
+one_state calls khz (Unavailable until) (Unavailable until') is is' = ap (λ n. Unavailable n) (greatest_same (HasNonoccupancy calls khz) until until' is.0 is'.0)
 one_state calls khz (Unavailable until) (Available since) is is' = absurd (not_quiet calls khz until is.0 is.1 is'.0)
 one_state calls khz (Available since) Usable is is' = absurd (is'.1 since is.1.holds)
 one_state calls khz (Available since) (Unavailable until) is is' = absurd (not_quiet calls khz until is'.0 is'.1 is.0)
-one_state calls khz (Available since) (Available since') is is' = ap (λ n. Available n) (greatest_same (Stands calls khz) since since' is.1 is'.1)
+one_state calls khz (Available since) (Available since') is is' = ap (λ n. Available n) (greatest_same (CheckStands calls khz) since since' is.1 is'.1)
 
 listed_or_not : (channels : List ℕ) (khz : ℕ) → Contains channels khz ⊎ (Contains channels khz → ⊥)
 listed_or_not [] khz = inr (λ has. let below = has.1 in absurd (omega arith))
@@ -41,7 +41,7 @@ listed_or_not (x ∷ channels) khz = elim (cases_eq x khz) [
     unlisted apart none zero below same = apart same
     unlisted apart none (suc k) below same = none (k, omega arith, same)
 
-pub state_determined : (channels : List ℕ) (calls : List Call) (khz : ℕ) (one other : Dfs) → IsAnswer channels calls khz one → IsAnswer channels calls khz other
+pub state_determined : (channels : List ℕ) (calls : List Call) (khz : ℕ) (one other : Dfs) → IsBookAnswer channels calls khz one → IsBookAnswer channels calls khz other
     → one ≡ other
 state_determined channels calls khz one other is is' = elim (listed_or_not channels khz) [
   | inl listed ↦ one_state calls khz one other (is.of_channel listed) (is'.of_channel listed)

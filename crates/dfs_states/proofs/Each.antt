@@ -2,7 +2,7 @@
 use Rattle.std.proofs.Common.{◌≡◌, ℕ, ◌+◌, ◌≤◌, ◌<◌, List, ◌++◌, length, take, drop, set, get_or, arith, refl, sym, subst, ◌∙◌, inl, inr}
 use Rattle.std.proofs.lemmas.Bool.{cases_eq}
 use Rattle.std.proofs.lemmas.List.{length-set, take_at, get_or-set_same, get_or-set_other, get_or_default}
-use Rattle.dfs_states.specs.Steps.{EachFollows}
+use Rattle.dfs_states.specs.inner.Steps.{EachFollows}
 
 -- the elements below i were changed, and the others weren't
 pub record FollowsBelow {X : Type 0} (Follows : X → X → Type 0) (i : ℕ) (old new : List X) : Type 0 where

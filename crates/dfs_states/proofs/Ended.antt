@@ -3,7 +3,7 @@ use Rattle.std.proofs.Common.{◌≡◌, ℕ, ◌+◌, ◌≤◌, ◌<◌, ◌�
 use Rattle.std.proofs.lemmas.Bool.{cases_lt, cases_eq}
 use Rattle.std.proofs.lemmas.List.{get_or_past}
 use Rattle.dfs_states.specs.Greatest.{IsMost}
-use Rattle.dfs_states.specs.Steps.{IsEnded}
+use Rattle.dfs_states.specs.inner.Steps.{IsEnded}
 use Rattle.dfs_states.specs.declared.check.Check.{Check}
 use Rattle.dfs_states.proofs.Most.{most_same, most_either}
 

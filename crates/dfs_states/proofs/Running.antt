@@ -1,8 +1,8 @@
 -- The check that runs in a slot.
 use Rattle.std.proofs.Common.{◌≡◌, ℕ, ◌+◌, ◌<◌, List, [], ◌∷◌, ◌++◌, arith, refl, sym, ap, subst, ◌∙◌, ◌⊎◌, inl, inr}
 use Rattle.chan_def.specs.declared.definition.ChanDef.{ChanDef}
-use Rattle.dfs_states.specs.Calls.{Call, Begin, DropCheck, now_of, HasCall, HasBegin, IsKept}
-use Rattle.dfs_states.specs.Meaning.{Counts, Runs, AreDue}
+use Rattle.dfs_states.specs.Calls.{Call, Begin, DropCheck, moment_of, HasCall, HasBegin, IsUndropped}
+use Rattle.dfs_states.specs.Meaning.{CheckCounts, Runs, EachMayBeCalled}
 use Rattle.dfs_states.proofs.Splits.{split_cons, split_more, has_newest, has_older, has_cases, none_has, begin_older, begin_newest, begin_cases, kept_older, kept_last}
 use Rattle.dfs_states.proofs.Later.{now_later}
 
@@ -34,14 +34,14 @@ runs_same calls slot c c' s s' e e' one other =
     elim (same_begin slot one.newer other.newer c c' one.length other.length one.older other.older (sym one.begun ∙ other.begun) other.last) [
       | inl earlier ↦ absurd (one.last earlier)
       | inr same ↦
-          let start : s ≡ s' = one.starts ∙ ap now_of same.2 ∙ sym other.starts in
+          let start : s ≡ s' = one.starts ∙ ap moment_of same.2 ∙ sym other.starts in
           let ends = one.ends in
           let ends' = other.ends in
           let lengths = same.1 in
           (same.0, start, omega arith)
     ]
 
-pub runs_newest : (calls : List Call) (slot : ℕ) (chan : ChanDef) (length start end : ℕ) → start ≡ now_of calls → end ≡ start + length → now_of calls < end
+pub runs_newest : (calls : List Call) (slot : ℕ) (chan : ChanDef) (length start end : ℕ) → start ≡ moment_of calls → end ≡ start + length → moment_of calls < end
     → Runs (Begin slot chan length ∷ calls) slot chan start end
 runs_newest calls slot chan length start end starts ends runs = record {
   newer = [];
@@ -57,7 +57,7 @@ runs_newest calls slot chan length start end starts ends runs = record {
 
 -- the check runs on, unless another begins in its slot or it is dropped
 pub runs_on : (f : Call) (calls : List Call) (slot : ℕ) (chan : ChanDef) (start end : ℕ) → ((c : ChanDef) (n : ℕ) → f ≡ Begin slot c n → ⊥)
-    → (f ≡ DropCheck slot → ⊥) → now_of (f ∷ calls) < end → Runs calls slot chan start end → Runs (f ∷ calls) slot chan start end
+    → (f ≡ DropCheck slot → ⊥) → moment_of (f ∷ calls) < end → Runs calls slot chan start end → Runs (f ∷ calls) slot chan start end
 runs_on f calls slot chan start end other undropped runs was = record {
   newer = f ∷ was.newer;
   length = was.length;
@@ -78,7 +78,7 @@ runs_on f calls slot chan start end other undropped runs was = record {
 
 -- the check that runs ran before, unless it is the one that has just begun
 pub runs_before : (f : Call) (calls : List Call) (slot : ℕ) (chan : ChanDef) (start end : ℕ) → ((c : ChanDef) (n : ℕ) → f ≡ Begin slot c n → ⊥)
-    → AreDue (f ∷ calls) → Runs (f ∷ calls) slot chan start end → Runs calls slot chan start end
+    → EachMayBeCalled (f ∷ calls) → Runs (f ∷ calls) slot chan start end → Runs calls slot chan start end
 runs_before f calls slot chan start end other due runs = elim (split_cons f calls runs.newer runs.older (Begin slot chan runs.length) runs.begun) [
   | inl newest ↦ absurd (other chan runs.length newest.1)
   | inr older ↦
@@ -99,13 +99,13 @@ runs_before f calls slot chan start end other due runs = elim (split_cons f call
 
 -- the check that has just begun
 pub runs_begun : (calls : List Call) (slot : ℕ) (c chan : ChanDef) (n start end : ℕ) → Runs (Begin slot c n ∷ calls) slot chan start end
-    → (c ≡ chan) × (start ≡ now_of calls) × (end ≡ start + n)
+    → (c ≡ chan) × (start ≡ moment_of calls) × (end ≡ start + n)
 runs_begun calls slot c chan n start end runs = elim (split_cons (Begin slot c n) calls runs.newer runs.older (Begin slot chan runs.length) runs.begun) [
   | inl newest ↦
       let same : Begin slot c n ≡ Begin slot chan runs.length = newest.1 in
       let lengths : n ≡ runs.length = cc in
       let ends = runs.ends in
-      (cc, runs.starts ∙ ap now_of (sym newest.2), omega arith)
+      (cc, runs.starts ∙ ap moment_of (sym newest.2), omega arith)
   | inr older ↦ absurd (runs.last (subst (λ xs. HasBegin xs slot) (sym older.1) (begin_newest older.0 slot c n)))
 ]
 
@@ -117,21 +117,21 @@ runs_dropped calls slot chan start end runs = elim (split_cons (DropCheck slot) 
 ]
 
 -- the calls after the beginning of a check that isn't dropped and isn't done have no begin in its slot
-undone_is_last : (newer : List Call) (slot : ℕ) (chan : ChanDef) (length : ℕ) (older : List Call) → AreDue (newer ++ Begin slot chan length ∷ older)
-    → IsKept newer slot → now_of (newer ++ Begin slot chan length ∷ older) < now_of older + length → HasBegin newer slot → ⊥
+undone_is_last : (newer : List Call) (slot : ℕ) (chan : ChanDef) (length : ℕ) (older : List Call) → EachMayBeCalled (newer ++ Begin slot chan length ∷ older)
+    → IsUndropped newer slot → moment_of (newer ++ Begin slot chan length ∷ older) < moment_of older + length → HasBegin newer slot → ⊥
 undone_is_last [] slot chan length older due kept undone begun = none_has (Begin slot begun.chan begun.length) begun.begun
 undone_is_last (f ∷ newer) slot chan length older due kept undone begun =
     let later = now_later f (newer ++ Begin slot chan length ∷ older) due in
-    let undone' : now_of (newer ++ Begin slot chan length ∷ older) < now_of older + length = omega arith in
+    let undone' : moment_of (newer ++ Begin slot chan length ∷ older) < moment_of older + length = omega arith in
     let last = undone_is_last newer slot chan length older due.1 (kept_older f newer slot kept) undone' in
     elim (begin_cases f newer slot begun) [
       | inl newest ↦
-          let due' : AreDue (Begin slot newest.0 newest.1 ∷ (newer ++ Begin slot chan length ∷ older)) =
-          subst (λ g. AreDue (g ∷ (newer ++ Begin slot chan length ∷ older))) newest.2 due in
+          let due' : EachMayBeCalled (Begin slot newest.0 newest.1 ∷ (newer ++ Begin slot chan length ∷ older)) =
+          subst (λ g. EachMayBeCalled (g ∷ (newer ++ Begin slot chan length ∷ older))) newest.2 due in
           due'.0.1 (record {
             chan = chan;
-            start = now_of older;
-            end = now_of older + length;
+            start = moment_of older;
+            end = moment_of older + length;
             runs = record {
               newer = newer;
               length = length;
@@ -148,16 +148,16 @@ undone_is_last (f ∷ newer) slot chan length older due kept undone begun =
     ]
 
 -- a check that counts and isn't done is the one that runs in its slot
-pub counting_runs : (calls : List Call) (khz slot end : ℕ) → AreDue calls → Counts calls khz slot end → now_of calls < end
+pub counting_runs : (calls : List Call) (khz slot end : ℕ) → EachMayBeCalled calls → CheckCounts calls khz slot end → moment_of calls < end
     → (chan : ChanDef) × (start : ℕ) × Runs calls slot chan start end
 counting_runs calls khz slot end due counts undone =
     let begun = counts.begun in
     let ends = counts.ends in
-    let due' : AreDue (counts.newer ++ Begin slot counts.chan counts.length ∷ counts.older) = subst AreDue begun due in
-    let same : now_of calls ≡ now_of (counts.newer ++ Begin slot counts.chan counts.length ∷ counts.older) = ap now_of begun in
+    let due' : EachMayBeCalled (counts.newer ++ Begin slot counts.chan counts.length ∷ counts.older) = subst EachMayBeCalled begun due in
+    let same : moment_of calls ≡ moment_of (counts.newer ++ Begin slot counts.chan counts.length ∷ counts.older) = ap moment_of begun in
     let last = undone_is_last counts.newer slot counts.chan counts.length counts.older due' counts.spared.kept (omega arith) in (
       counts.chan,
-      now_of counts.older,
+      moment_of counts.older,
       record {
         newer = counts.newer;
         length = counts.length;

@@ -3,14 +3,14 @@ use Rattle.std.proofs.Common.{◌≡◌, ℕ, ◌≤◌, ◌<◌, List, ◌∷�
 use Rattle.std.proofs.lemmas.Bool.{cases_eq}
 use Rattle.std.proofs.lemmas.List.{get_or-set_same, get_or-set_other}
 use Rattle.chan_def.specs.declared.definition.ChanDef.{ChanDef}
-use Rattle.dfs_states.specs.Calls.{Call, Advance, Begin, DropCheck, now_of}
-use Rattle.dfs_states.specs.Meaning.{IsIdle, AreDue}
+use Rattle.dfs_states.specs.Calls.{Call, Advance, Begin, DropCheck, moment_of}
+use Rattle.dfs_states.specs.Meaning.{IsFreeSlot, EachMayBeCalled}
 use Rattle.dfs_states.specs.StandsFor.{IsCheck, AreChecks}
 use Rattle.dfs_states.specs.declared.check.Check.{Check}
 use Rattle.dfs_states.proofs.Running.{runs_same, runs_on, runs_before, runs_begun, runs_dropped}
 
-pub idle_before : (f : Call) (calls : List Call) (slot : ℕ) → ((c : ChanDef) (n : ℕ) → f ≡ Begin slot c n → ⊥) → AreDue (f ∷ calls)
-    → IsIdle calls slot → IsIdle (f ∷ calls) slot
+pub idle_before : (f : Call) (calls : List Call) (slot : ℕ) → ((c : ChanDef) (n : ℕ) → f ≡ Begin slot c n → ⊥) → EachMayBeCalled (f ∷ calls)
+    → IsFreeSlot calls slot → IsFreeSlot (f ∷ calls) slot
 idle_before f calls slot other due idle = λ busy. idle (record {
   chan = busy.chan;
   start = busy.start;
@@ -20,7 +20,7 @@ idle_before f calls slot other due idle = λ busy. idle (record {
 
 -- no time passes, and no check begins or is dropped in the slot
 pub check_same : (f : Call) (calls : List Call) (slot : ℕ) (check : Option Check) → ((c : ChanDef) (n : ℕ) → f ≡ Begin slot c n → ⊥)
-    → (f ≡ DropCheck slot → ⊥) → now_of (f ∷ calls) ≡ now_of calls → AreDue (f ∷ calls) → IsCheck calls slot check → IsCheck (f ∷ calls) slot check
+    → (f ≡ DropCheck slot → ⊥) → moment_of (f ∷ calls) ≡ moment_of calls → EachMayBeCalled (f ∷ calls) → IsCheck calls slot check → IsCheck (f ∷ calls) slot check
 check_same f calls slot None other undropped now due is = idle_before f calls slot other due is
 check_same f calls slot (Some check) other undropped now due is =
     let below = is.runs in
@@ -31,21 +31,21 @@ pub check_runs_on : (moment : ℕ) (calls : List Call) (slot : ℕ) (check : Che
 check_runs_on moment calls slot check below is =
     runs_on (Advance moment) calls slot check.chan check.start check.end (λ c n same. cc) (λ same. cc) below is
 
-pub check_done : (moment : ℕ) (calls : List Call) (slot : ℕ) (check : Check) → check.end ≤ moment → AreDue (Advance moment ∷ calls)
-    → IsCheck calls slot (Some check) → IsIdle (Advance moment ∷ calls) slot
+pub check_done : (moment : ℕ) (calls : List Call) (slot : ℕ) (check : Check) → check.end ≤ moment → EachMayBeCalled (Advance moment ∷ calls)
+    → IsCheck calls slot (Some check) → IsFreeSlot (Advance moment ∷ calls) slot
 check_done moment calls slot check done due is = λ busy.
     let runs = runs_before (Advance moment) calls slot busy.chan busy.start busy.end (λ c n same. cc) due busy.runs in
     let same = (runs_same calls slot busy.chan check.chan busy.start check.start busy.end check.end runs is).2 in
     let below = busy.runs.runs in
     absurd (omega arith)
 
-pub check_none : (moment : ℕ) (calls : List Call) (slot : ℕ) → AreDue (Advance moment ∷ calls) → IsIdle calls slot → IsIdle (Advance moment ∷ calls) slot
+pub check_none : (moment : ℕ) (calls : List Call) (slot : ℕ) → EachMayBeCalled (Advance moment ∷ calls) → IsFreeSlot calls slot → IsFreeSlot (Advance moment ∷ calls) slot
 check_none moment calls slot due is = idle_before (Advance moment) calls slot (λ c n same. cc) due is
 
 -- one slot's check is written, and the others' are as they were
 pub checks_set : (f : Call) (calls : List Call) (checks : List (Option Check)) (slot : ℕ) (check : Option Check) → slot < length checks
     → IsCheck (f ∷ calls) slot check → ((c : ChanDef) (n other : ℕ) → f ≡ Begin other c n → other ≡ slot) → ((other : ℕ) → f ≡ DropCheck other → other ≡ slot)
-    → now_of (f ∷ calls) ≡ now_of calls → AreDue (f ∷ calls) → AreChecks checks calls → AreChecks (set checks slot check) (f ∷ calls)
+    → moment_of (f ∷ calls) ≡ moment_of calls → EachMayBeCalled (f ∷ calls) → AreChecks checks calls → AreChecks (set checks slot check) (f ∷ calls)
 checks_set f calls checks slot check within is begins drops now due are = λ other. elim (cases_eq other slot) [
   | inl same ↦
       let here : get_or (set checks slot check) other none ≡ check =
@@ -61,12 +61,12 @@ checks_set f calls checks slot check within is begins drops now due are = λ oth
     none = None
 
 pub checks_same : (f : Call) (calls : List Call) (checks : List (Option Check)) → ((slot : ℕ) (c : ChanDef) (n : ℕ) → f ≡ Begin slot c n → ⊥)
-    → ((slot : ℕ) → f ≡ DropCheck slot → ⊥) → now_of (f ∷ calls) ≡ now_of calls → AreDue (f ∷ calls) → AreChecks checks calls → AreChecks checks (f ∷ calls)
+    → ((slot : ℕ) → f ≡ DropCheck slot → ⊥) → moment_of (f ∷ calls) ≡ moment_of calls → EachMayBeCalled (f ∷ calls) → AreChecks checks calls → AreChecks checks (f ∷ calls)
 checks_same f calls checks other undropped now due are = λ slot.
     check_same f calls slot (get_or checks slot None) (other slot) (undropped slot) now due (are slot)
 
 -- a check of length 0 runs at no moment
-pub idle_at_once : (calls : List Call) (slot : ℕ) (chan : ChanDef) → IsIdle (Begin slot chan 0 ∷ calls) slot
+pub idle_at_once : (calls : List Call) (slot : ℕ) (chan : ChanDef) → IsFreeSlot (Begin slot chan 0 ∷ calls) slot
 idle_at_once calls slot chan = λ busy.
     let begun = runs_begun calls slot chan busy.chan 0 busy.start busy.end busy.runs in
     let starts = begun.1 in
@@ -74,5 +74,5 @@ idle_at_once calls slot chan = λ busy.
     let below = busy.runs.runs in
     absurd (omega arith)
 
-pub idle_dropped : (calls : List Call) (slot : ℕ) → IsIdle (DropCheck slot ∷ calls) slot
+pub idle_dropped : (calls : List Call) (slot : ℕ) → IsFreeSlot (DropCheck slot ∷ calls) slot
 idle_dropped calls slot = λ busy. runs_dropped calls slot busy.chan busy.start busy.end busy.runs

@@ -2,7 +2,7 @@
 use Rattle.std.proofs.Common.{◌≡◌, ℕ, List, [], ◌∷◌, ◌++◌, refl, ap, subst, ◌⊎◌, inl, inr}
 use Rattle.chan_def.specs.Covered.{IsCovered}
 use Rattle.chan_def.specs.declared.definition.ChanDef.{ChanDef}
-use Rattle.dfs_states.specs.Calls.{Call, Radar, Begin, DropCheck, HasCall, HasBegin, HasRadar, IsKept}
+use Rattle.dfs_states.specs.Calls.{Call, Radar, Begin, DropCheck, HasCall, HasBegin, HasRadarCall, IsUndropped}
 
 pub split_cons : (f : Call) (calls newer older : List Call) (g : Call) → f ∷ calls ≡ newer ++ g ∷ older
     → ((newer ≡ []) × (f ≡ g) × (calls ≡ older)) ⊎ ((rest : List Call) × (newer ≡ f ∷ rest) × (calls ≡ rest ++ g ∷ older))
@@ -45,28 +45,28 @@ begin_cases f calls slot has = elim (has_cases f (Begin slot has.chan has.length
   | inr older ↦ inr (record { chan = has.chan; length = has.length; begun = older })
 ]
 
-pub radar_older : (f : Call) (calls : List Call) (khz : ℕ) → HasRadar calls khz → HasRadar (f ∷ calls) khz
+pub radar_older : (f : Call) (calls : List Call) (khz : ℕ) → HasRadarCall calls khz → HasRadarCall (f ∷ calls) khz
 radar_older f calls khz has =
     record { chan = has.chan; covered = has.covered; met = has_older f (Radar has.chan) calls has.met }
 
-pub radar_cases : (f : Call) (calls : List Call) (khz : ℕ) → HasRadar (f ∷ calls) khz
-    → ((chan : ChanDef) × (f ≡ Radar chan) × IsCovered chan khz) ⊎ HasRadar calls khz
+pub radar_cases : (f : Call) (calls : List Call) (khz : ℕ) → HasRadarCall (f ∷ calls) khz
+    → ((chan : ChanDef) × (f ≡ Radar chan) × IsCovered chan khz) ⊎ HasRadarCall calls khz
 radar_cases f calls khz has = elim (has_cases f (Radar has.chan) calls has.met) [
   | inl newest ↦ inl (has.chan, newest, has.covered)
   | inr older ↦ inr (record { chan = has.chan; covered = has.covered; met = older })
 ]
 
-pub kept_older : (f : Call) (newer : List Call) (slot : ℕ) → IsKept (f ∷ newer) slot → IsKept newer slot
+pub kept_older : (f : Call) (newer : List Call) (slot : ℕ) → IsUndropped (f ∷ newer) slot → IsUndropped newer slot
 kept_older f newer slot kept = λ n between at. kept (f ∷ n) between (split_more f newer n between (DropCheck slot) at)
 
-pub kept_more : (f : Call) (newer : List Call) (slot : ℕ) → (f ≡ DropCheck slot → HasBegin newer slot) → IsKept newer slot → IsKept (f ∷ newer) slot
+pub kept_more : (f : Call) (newer : List Call) (slot : ℕ) → (f ≡ DropCheck slot → HasBegin newer slot) → IsUndropped newer slot → IsUndropped (f ∷ newer) slot
 kept_more f newer slot still kept = λ n between at. elim (split_cons f newer n between (DropCheck slot) at) [
   | inl newest ↦ subst (λ xs. HasBegin xs slot) newest.2 (still newest.1)
   | inr older ↦ kept older.0 between older.2
 ]
 
 -- a check that isn't dropped before the next one begins, where none begins, isn't dropped
-pub kept_last : (newer : List Call) (slot : ℕ) → IsKept newer slot → (HasBegin newer slot → ⊥) → HasCall newer (DropCheck slot) → ⊥
+pub kept_last : (newer : List Call) (slot : ℕ) → IsUndropped newer slot → (HasBegin newer slot → ⊥) → HasCall newer (DropCheck slot) → ⊥
 kept_last newer slot kept last has = last (after has.newer has.older has.at (kept has.newer has.older has.at))
   where
     after : (n between : List Call) → newer ≡ n ++ DropCheck slot ∷ between → HasBegin between slot → HasBegin newer slot

@@ -13,10 +13,10 @@ pub data Call : Type 0 where
   RegionChanged : Call
 
 -- the present moment: the last one that was told, or 0
-abbrev pub now_of : List Call → ℕ
-now_of [] = 0
-now_of (Advance moment ∷ calls) = moment
-now_of (call ∷ calls) = now_of calls
+abbrev pub moment_of : List Call → ℕ
+moment_of [] = 0
+moment_of (Advance moment ∷ calls) = moment
+moment_of (call ∷ calls) = moment_of calls
 
 -- the call is one of the list
 pub record HasCall (calls : List Call) (call : Call) : Type 0 where
@@ -31,11 +31,11 @@ pub record HasBegin (calls : List Call) (slot : ℕ) : Type 0 where
   pub begun : HasCall calls (Begin slot chan length)
 
 -- there was radar on the subchannel
-pub record HasRadar (calls : List Call) (khz : ℕ) : Type 0 where
+pub record HasRadarCall (calls : List Call) (khz : ℕ) : Type 0 where
   pub chan : ChanDef
   pub covered : IsCovered chan khz
   pub met : HasCall calls (Radar chan)
 
 -- the slot's check isn't dropped before the next one begins there
-abbrev pub IsKept : List Call → ℕ → Type 0
-IsKept calls slot = (newer between : List Call) → calls ≡ newer ++ DropCheck slot ∷ between → HasBegin between slot
+abbrev pub IsUndropped : List Call → ℕ → Type 0
+IsUndropped calls slot = (newer between : List Call) → calls ≡ newer ++ DropCheck slot ∷ between → HasBegin between slot

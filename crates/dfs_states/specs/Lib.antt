@@ -3,4 +3,4 @@ pub mod Calls
 pub mod Greatest
 pub mod Meaning
 pub mod StandsFor
-pub mod Steps
+pub mod inner

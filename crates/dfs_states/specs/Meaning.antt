@@ -1,50 +1,52 @@
--- What a list of calls says: the checks that stand for a subchannel, those that run, and the nonoccupancy after radar.
+-- What a list of calls says: the checks (CAC, channel availability check) that stand for a subchannel, those that run, and
+-- the nonoccupancy (NOP, non-occupancy period) after radar.
 -- Subchannels are named by their centres in kHz, moments are in ms.
-use Rattle.std.specs.Prelude.{◌≡◌, ℕ, ◌+◌, ◌^◌, ◌<◌, ◌≤◌, List, [], ◌∷◌, ◌++◌, Contains, Option, Some, None}
+use Rattle.std.specs.Prelude.{◌≡◌, ℕ, ◌+◌, ◌<◌, ◌≤◌, List, [], ◌∷◌, ◌++◌, Contains, Option, Some, None}
 use Rattle.chan_def.specs.Covered.{IsCovered, IsValidDef}
 use Rattle.chan_def.specs.declared.definition.ChanDef.{ChanDef}
-use Rattle.dfs_states.specs.Calls.{Call, Advance, Radar, Begin, DropCheck, RegionChanged, now_of, HasCall, HasBegin, HasRadar, IsKept}
+use Rattle.dfs_states.specs.Calls.{Call, Advance, Radar, Begin, DropCheck, RegionChanged, moment_of, HasCall, HasBegin, HasRadarCall, IsUndropped}
 use Rattle.dfs_states.specs.Greatest.{IsGreatest}
+use Rattle.dfs_states.specs.declared.moments.TheConstants.{LAST_MOMENT_MS, NONOCCUPANCY_MS}
 use Rattle.dfs_states.specs.declared.dfs.Dfs.{Dfs}
 use Rattle.dfs_states.specs.declared.dfs.Dfs.TheVariants.{Usable, Unavailable, Available}
 
--- there was radar on the subchannel, and its nonoccupancy of 30 minutes ends at this moment
-pub record IsBarred (calls : List Call) (khz until : ℕ) : Type 0 where
+-- there was radar on the subchannel, and its nonoccupancy ends at this moment
+pub record HasNonoccupancy (calls : List Call) (khz until : ℕ) : Type 0 where
   pub newer : List Call
   pub chan : ChanDef
   pub older : List Call
   pub met : calls ≡ newer ++ Radar chan ∷ older
   pub covered : IsCovered chan khz
-  pub ends : until ≡ now_of older + 1800000
+  pub ends : until ≡ moment_of older + NONOCCUPANCY_MS
 
 -- each nonoccupancy of the subchannel is over
-abbrev pub IsQuiet : List Call → ℕ → Type 0
-IsQuiet calls khz = (until : ℕ) → IsBarred calls khz until → until ≤ now_of calls
+abbrev pub IsPastNonoccupancy : List Call → ℕ → Type 0
+IsPastNonoccupancy calls khz = (until : ℕ) → HasNonoccupancy calls khz until → until ≤ moment_of calls
 
 -- the calls after a check's beginning leave the check to the subchannel: it isn't dropped, and there is neither radar on
 -- the subchannel nor a change of the region
 pub record Spares (newer : List Call) (khz slot : ℕ) : Type 0 where
-  pub kept : IsKept newer slot
-  pub no_radar : HasRadar newer khz → ⊥
+  pub kept : IsUndropped newer slot
+  pub no_radar : HasRadarCall newer khz → ⊥
   pub same_region : HasCall newer RegionChanged → ⊥
 
 -- a check that began in the slot, and that ends at this moment, counts for the subchannel: it covers it, and all that came
 -- after its beginning spares it
-pub record Counts (calls : List Call) (khz slot end : ℕ) : Type 0 where
+pub record CheckCounts (calls : List Call) (khz slot end : ℕ) : Type 0 where
   pub newer : List Call
   pub chan : ChanDef
   pub length : ℕ
   pub older : List Call
   pub begun : calls ≡ newer ++ Begin slot chan length ∷ older
   pub covered : IsCovered chan khz
-  pub ends : end ≡ now_of older + length
+  pub ends : end ≡ moment_of older + length
   pub spared : Spares newer khz slot
 
 -- a check that ended at this moment stands for the subchannel: it counts, and it is done
-pub record Stands (calls : List Call) (khz end : ℕ) : Type 0 where
+pub record CheckStands (calls : List Call) (khz end : ℕ) : Type 0 where
   pub slot : ℕ
-  pub counts : Counts calls khz slot end
-  pub done : end ≤ now_of calls
+  pub counts : CheckCounts calls khz slot end
+  pub done : end ≤ moment_of calls
 
 -- the check that runs in the slot: the last one that began there, not dropped, and not done
 pub record Runs (calls : List Call) (slot : ℕ) (chan : ChanDef) (start end : ℕ) : Type 0 where
@@ -54,9 +56,9 @@ pub record Runs (calls : List Call) (slot : ℕ) (chan : ChanDef) (start end : �
   pub begun : calls ≡ newer ++ Begin slot chan length ∷ older
   pub last : HasBegin newer slot → ⊥
   pub kept : HasCall newer (DropCheck slot) → ⊥
-  pub starts : start ≡ now_of older
+  pub starts : start ≡ moment_of older
   pub ends : end ≡ start + length
-  pub runs : now_of calls < end
+  pub runs : moment_of calls < end
 
 -- some check runs in the slot
 pub record IsBusy (calls : List Call) (slot : ℕ) : Type 0 where
@@ -66,37 +68,37 @@ pub record IsBusy (calls : List Call) (slot : ℕ) : Type 0 where
   pub runs : Runs calls slot chan start end
 
 -- no check runs in the slot
-abbrev pub IsIdle : List Call → ℕ → Type 0
-IsIdle calls slot = IsBusy calls slot → ⊥
+abbrev pub IsFreeSlot : List Call → ℕ → Type 0
+IsFreeSlot calls slot = IsBusy calls slot → ⊥
 
--- the call may come after these: time doesn't go back, and stops at 10^15; channels are valid; a check begins in an idle
+-- the call may come after these: time doesn't go back, and has a last moment; channels are valid; a check begins in an idle
 -- slot, and is dropped in a busy one, since a drop that changes nothing is no event
-abbrev pub IsDue : List Call → Call → Type 0
-IsDue calls (Advance moment) = (now_of calls ≤ moment) × (moment ≤ 10 ^ 15)
-IsDue calls (Radar chan) = IsValidDef chan
-IsDue calls (Begin slot chan length) = IsValidDef chan × IsIdle calls slot
-IsDue calls (DropCheck slot) = IsBusy calls slot
-IsDue calls RegionChanged = Unit {0}
+abbrev pub MayBeCalled : List Call → Call → Type 0
+MayBeCalled calls (Advance moment) = (moment_of calls ≤ moment) × (moment ≤ LAST_MOMENT_MS)
+MayBeCalled calls (Radar chan) = IsValidDef chan
+MayBeCalled calls (Begin slot chan length) = IsValidDef chan × IsFreeSlot calls slot
+MayBeCalled calls (DropCheck slot) = IsBusy calls slot
+MayBeCalled calls RegionChanged = Unit {0}
 
 -- each call came where it might
-abbrev pub AreDue : List Call → Type 0
-AreDue [] = Unit {0}
-AreDue (call ∷ calls) = IsDue calls call × AreDue calls
+abbrev pub EachMayBeCalled : List Call → Type 0
+EachMayBeCalled [] = Unit {0}
+EachMayBeCalled (call ∷ calls) = MayBeCalled calls call × EachMayBeCalled calls
 
 -- the state of a subchannel
-abbrev pub IsState : List Call → ℕ → Dfs → Type 0
-IsState calls khz (Unavailable until) = IsGreatest (IsBarred calls khz) until × (now_of calls < until)
-IsState calls khz (Available since) = IsQuiet calls khz × IsGreatest (Stands calls khz) since
-IsState calls khz Usable = IsQuiet calls khz × ((end : ℕ) → Stands calls khz end → ⊥)
+abbrev pub IsBookState : List Call → ℕ → Dfs → Type 0
+IsBookState calls khz (Unavailable until) = IsGreatest (HasNonoccupancy calls khz) until × (moment_of calls < until)
+IsBookState calls khz (Available since) = IsPastNonoccupancy calls khz × IsGreatest (CheckStands calls khz) since
+IsBookState calls khz Usable = IsPastNonoccupancy calls khz × ((end : ℕ) → CheckStands calls khz end → ⊥)
 
 -- the answer for a centre: the state of a channel of the book, and usable for any other centre
-pub record IsAnswer (channels : List ℕ) (calls : List Call) (khz : ℕ) (dfs : Dfs) : Type 0 where
-  pub of_channel : Contains channels khz → IsState calls khz dfs
+pub record IsBookAnswer (channels : List ℕ) (calls : List Call) (khz : ℕ) (dfs : Dfs) : Type 0 where
+  pub of_channel : Contains channels khz → IsBookState calls khz dfs
   pub of_other : (Contains channels khz → ⊥) → dfs ≡ Usable
 
 -- the check that runs in the slot, as its channel and its end, or that none runs
 abbrev pub IsRunning : List Call → ℕ → Option (ChanDef × ℕ) → Type 0
-IsRunning calls slot None = IsIdle calls slot
+IsRunning calls slot None = IsFreeSlot calls slot
 IsRunning calls slot (Some check) = (start : ℕ) × Runs calls slot check.0 start check.1
 
 -- the call is a moment or a change of the region

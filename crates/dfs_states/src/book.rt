@@ -1,17 +1,18 @@
 //! The book.
 
-ghost use Rattle.std.specs.Prelude.{◌≡◌, ℕ, List, [], ◌∷◌, ◌≤◌, ◌^◌, IfOk};
+ghost use Rattle.std.specs.Prelude.{◌≡◌, ℕ, List, [], ◌∷◌, ◌≤◌, IfOk};
 ghost use Rattle.dfs_states.specs.Calls.{Call, Advance, Radar, Begin, DropCheck, RegionChanged};
-ghost use Rattle.dfs_states.specs.Meaning.{IsDue, IsIdle, IsAnswer, IsRunning};
-ghost use Rattle.dfs_states.specs.StandsFor.{StandsFor};
-ghost use Rattle.dfs_states.specs.Steps.{ArePlaces};
+ghost use Rattle.dfs_states.specs.Meaning.{MayBeCalled, IsFreeSlot, IsBookAnswer, IsRunning};
+ghost use Rattle.dfs_states.specs.StandsFor.{BookStandsFor};
+ghost use Rattle.dfs_states.specs.inner.Steps.{ArePlaces};
 
 use crate::check::{Check, clear_done, some_is_done};
 use crate::dfs::Dfs;
+use crate::moments::LAST_MOMENT_MS;
 use crate::place::{Place, advance_each, begin_check, change_region, meet_radar, place_of};
 use crate::slot::IfSlot;
-use chan_def::ChanDef;
-use freq_range::OutOfMemory;
+use chan_def::{ChanDef, MOST_IFACES};
+use reg_lists::OutOfMemory;
 use std::alloc::Global;
 use std::marker::Model;
 
@@ -20,29 +21,30 @@ use std::marker::Model;
 #[derive(Debug, Drop)]
 pub struct DfsBook {
     moment: u64,
-    checks: [Option<Check>; 8],
+    checks: [Option<Check>; MOST_IFACES],
     places: Vec<Place>,
 }
 
 impl Model for DfsBook {
-    ghost use Rattle.std.specs.Prelude.{◌≤◌, ◌^◌};
+    ghost use Rattle.std.specs.Prelude.{◌≤◌};
+    ghost use Rattle.dfs_states.specs.declared.moments.TheConstants.{LAST_MOMENT_MS};
     ghost use Rattle.dfs_states.specs.Book.{Book};
 
     ghost Value = { Book };
 
     ghost view = { λ b. record { moment = b.moment; checks = b.checks; places = b.places.items } };
 
-    ghost invariant = { λ b. b.moment ≤ 10 ^ 15 };
+    ghost invariant = { λ b. b.moment ≤ LAST_MOMENT_MS };
 }
 
 impl DfsBook {
     /// The book of the channels of these centres, in kHz, at moment 0. All are usable.
     pub fn new(alloc: Global, channels: &[u32]) -> Result<DfsBook, OutOfMemory>
-        ensures opening { IfOk result (λ book. StandsFor book channels.now []) }
+        ensures opening { IfOk result (λ book. BookStandsFor book channels.now []) }
     {
         Ok(DfsBook {
             moment: 0,
-            checks: [None; 8],
+            checks: [None; MOST_IFACES],
             places: unused_places(alloc, channels)?,
         })
     }
@@ -50,9 +52,9 @@ impl DfsBook {
     /// It is `now`, in ms, which isn't earlier than before. A check that ends by then is done
     /// (`cfg80211_cac_event`).
     pub fn advance(&mut self, now: u64)
-        requires { now ≤ 10 ^ 15 }
-        ensures stands_for { (channels : List ℕ) (calls : List Call) → StandsFor self.old channels calls
-            → IsDue calls (Advance now) → StandsFor self.new channels (Advance now ∷ calls) }
+        requires { now ≤ LAST_MOMENT_MS }
+        ensures stands_for { (channels : List ℕ) (calls : List Call) → BookStandsFor self.old channels calls
+            → MayBeCalled calls (Advance now) → BookStandsFor self.new channels (Advance now ∷ calls) }
     {
         if !some_is_done(now, &self.checks) {
             self.moment = now;
@@ -65,8 +67,8 @@ impl DfsBook {
 
     /// There is radar on the channel, at the present moment (`cfg80211_radar_event`).
     pub fn radar(&mut self, c: &ChanDef)
-        ensures stands_for { (channels : List ℕ) (calls : List Call) → StandsFor self.old channels calls
-            → IsDue calls (Radar c.now) → StandsFor self.new channels (Radar c.now ∷ calls) }
+        ensures stands_for { (channels : List ℕ) (calls : List Call) → BookStandsFor self.old channels calls
+            → MayBeCalled calls (Radar c.now) → BookStandsFor self.new channels (Radar c.now ∷ calls) }
     {
         meet_radar(self.moment, c, self.places.as_mut_slice());
     }
@@ -74,8 +76,8 @@ impl DfsBook {
     /// A check begins in an idle slot, at the present moment, and takes `length_ms`
     /// (`NL80211_CMD_RADAR_DETECT`).
     pub fn begin(&mut self, iface: IfSlot, c: &ChanDef, length_ms: u32)
-        ensures stands_for { (channels : List ℕ) (calls : List Call) → StandsFor self.old channels calls
-            → IsDue calls (Begin iface c.now length_ms) → StandsFor self.new channels (Begin iface c.now length_ms ∷ calls) }
+        ensures stands_for { (channels : List ℕ) (calls : List Call) → BookStandsFor self.old channels calls
+            → MayBeCalled calls (Begin iface c.now length_ms) → BookStandsFor self.new channels (Begin iface c.now length_ms ∷ calls) }
     {
         let slot = iface.place();
         begin_check(self.moment, slot, c, length_ms, self.places.as_mut_slice());
@@ -91,26 +93,26 @@ impl DfsBook {
 
     /// The slot's check is dropped (`NL80211_RADAR_CAC_ABORTED`). Where none runs, nothing changes.
     pub fn drop_check(&mut self, iface: IfSlot)
-        ensures stands_for { (channels : List ℕ) (calls : List Call) → StandsFor self.old channels calls
-            → IsDue calls (DropCheck iface) → StandsFor self.new channels (DropCheck iface ∷ calls) }
-        ensures unchanged { (channels : List ℕ) (calls : List Call) → StandsFor self.old channels calls
-            → IsIdle calls iface → self.new ≡ self.old }
+        ensures stands_for { (channels : List ℕ) (calls : List Call) → BookStandsFor self.old channels calls
+            → MayBeCalled calls (DropCheck iface) → BookStandsFor self.new channels (DropCheck iface ∷ calls) }
+        ensures unchanged { (channels : List ℕ) (calls : List Call) → BookStandsFor self.old channels calls
+            → IsFreeSlot calls iface → self.new ≡ self.old }
     {
         self.checks[iface.place()] = None;
     }
 
     /// The region of the radio has changed (`reg_get_dfs_region`).
     pub fn region_changed(&mut self)
-        ensures stands_for { (channels : List ℕ) (calls : List Call) → StandsFor self.old channels calls
-            → StandsFor self.new channels (RegionChanged ∷ calls) }
+        ensures stands_for { (channels : List ℕ) (calls : List Call) → BookStandsFor self.old channels calls
+            → BookStandsFor self.new channels (RegionChanged ∷ calls) }
     {
         change_region(self.places.as_mut_slice());
     }
 
     /// The state of the channel of this centre, in kHz. A centre that isn't of the book is usable.
     pub fn state(&self, khz: u32) -> Dfs
-        ensures answer { (channels : List ℕ) (calls : List Call) → StandsFor self.now channels calls
-            → IsAnswer channels calls khz result }
+        ensures answer { (channels : List ℕ) (calls : List Call) → BookStandsFor self.now channels calls
+            → IsBookAnswer channels calls khz result }
     {
         match place_of(khz, self.places.as_slice()) {
             Some(place) => place.state(self.moment),
@@ -121,7 +123,7 @@ impl DfsBook {
     /// The channel of the check that runs in the slot, and when it is done, in ms. `None` exactly where
     /// none runs.
     pub fn running(&self, iface: IfSlot) -> Option<(ChanDef, u64)>
-        ensures answer { (channels : List ℕ) (calls : List Call) → StandsFor self.now channels calls
+        ensures answer { (channels : List ℕ) (calls : List Call) → BookStandsFor self.now channels calls
             → IsRunning calls iface result }
     {
         let check = self.checks[iface.place()]?;

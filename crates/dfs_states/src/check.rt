@@ -1,11 +1,12 @@
 //! Checks that run.
 
 ghost use Rattle.std.specs.Prelude.{◌≡◌, ℕ, ◌↔◌, Some, IsTrue, Any};
-ghost use Rattle.dfs_states.specs.Steps.{EachFollows, CheckFollows, IsDone, IsEnded};
+ghost use Rattle.dfs_states.specs.inner.Steps.{EachFollows, CheckFollows, IsDone, IsEnded};
 
 use chan_def::ChanDef;
 
-/// A check that runs: radar is looked for on a channel before it is used.
+/// A check that runs (CAC, channel availability check): radar is looked for on a channel before it is
+/// used.
 #[derive(Clone, Copy, Debug)]
 pub(crate) struct Check {
     pub chan: ChanDef,

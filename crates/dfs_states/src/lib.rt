@@ -1,4 +1,5 @@
-//! The book of a radio on checks and radar: for each channel the end of its nonoccupancy and of its
+//! The book of a radio on checks (CAC, channel availability check) and radar: for each channel the end of
+//! its nonoccupancy (NOP, non-occupancy period) and of its
 //! latest standing check, for each slot the check that runs, and no list of what happened.
 #![tactic(auto)]
 
@@ -13,7 +14,5 @@ mod slot;
 pub use book::DfsBook;
 pub use dfs::Dfs;
 pub use laws::{answers_are_determined, blank_calls_are_alike};
+pub use moments::{LAST_MOMENT_MS, NONOCCUPANCY_MS};
 pub use slot::IfSlot;
-
-#[cfg(test)]
-mod tests;

@@ -1,7 +1,14 @@
-//! The later of two moments.
+//! Moments, in ms.
 
 ghost use Rattle.std.specs.Prelude.{◌≡◌, ◌⊎◌, Some};
 ghost use Rattle.dfs_states.specs.Greatest.{IsMost};
+
+/// The last moment, in ms.
+pub const LAST_MOMENT_MS: u64 = 1_000_000_000_000_000;
+
+/// How long a channel isn't used after radar, in ms: its NOP, the non-occupancy period
+/// (`IEEE80211_DFS_MIN_NOP_TIME_MS`).
+pub const NONOCCUPANCY_MS: u64 = 1_800_000;
 
 /// The later of two moments, either of which there may not be.
 pub(crate) fn later(one: Option<u64>, other: Option<u64>) -> Option<u64>

@@ -1,31 +1,28 @@
 //! What is kept of one channel.
 
-ghost use Rattle.std.specs.Prelude.{◌≡◌, ℕ, ◌⊎◌, ◌<◌, ◌≤◌, ◌^◌, List, [], Some, Contains, MatchOption, slice_index_or, length, false, None};
-ghost use Rattle.dfs_states.specs.Calls.{Call, Advance, Radar, Begin, RegionChanged, now_of};
+ghost use Rattle.std.specs.Prelude.{◌≡◌, ℕ, ◌⊎◌, ◌<◌, ◌≤◌, List, [], Some, Contains, MatchOption, slice_index_or, length, false, None};
+ghost use Rattle.dfs_states.specs.Calls.{Call, Advance, Radar, Begin, RegionChanged, moment_of};
 ghost use Rattle.dfs_states.specs.Greatest.{IsMost};
-ghost use Rattle.dfs_states.specs.Meaning.{IsState};
+ghost use Rattle.dfs_states.specs.Meaning.{IsBookState};
 ghost use Rattle.dfs_states.specs.StandsFor.{AreChecks, IsPlace};
-ghost use Rattle.dfs_states.specs.Steps.{EachFollows, PlaceFollows, IsEnded};
+ghost use Rattle.dfs_states.specs.inner.Steps.{EachFollows, PlaceFollows, IsEnded};
 
 use crate::check::{Check, end_of};
 use crate::dfs::Dfs;
-use crate::moments::later;
-use chan_def::{ChanDef, covers};
-
-/// How long a channel isn't used after radar, in ms (`IEEE80211_DFS_MIN_NOP_TIME_MS`).
-const NONOCCUPANCY_MS: u64 = 1_800_000;
+use crate::moments::{LAST_MOMENT_MS, NONOCCUPANCY_MS, later};
+use chan_def::{ChanDef, MOST_IFACES, covers};
 
 /// What is known of a channel of 20 MHz.
 #[derive(Clone, Copy, Debug)]
 pub(crate) struct Place {
     /// Its centre, in kHz.
     pub khz: u32,
-    /// The latest end of a nonoccupancy, in ms.
+    /// The latest end of a nonoccupancy (NOP), in ms.
     pub until: Option<u64>,
-    /// The latest end of a check that stands for it, in ms.
+    /// The latest end of a check (CAC) that stands for it, in ms.
     pub since: Option<u64>,
     /// For each slot, whether the check that runs there counts for it.
-    pub counts: [bool; 8],
+    pub counts: [bool; MOST_IFACES],
 }
 
 impl Place {
@@ -38,13 +35,13 @@ impl Place {
             khz,
             until: None,
             since: None,
-            counts: [false; 8],
+            counts: [false; MOST_IFACES],
         }
     }
 
     /// The state at the present moment.
     pub(crate) fn state(&self, now: u64) -> Dfs
-        ensures { (calls : List Call) → now_of calls ≡ now → IsPlace calls self.now → IsState calls self.now.khz result }
+        ensures { (calls : List Call) → moment_of calls ≡ now → IsPlace calls self.now → IsBookState calls self.now.khz result }
     {
         if let Some(until) = self.bar(now) {
             return Dfs::Unavailable { until };
@@ -67,7 +64,7 @@ impl Place {
     }
 
     /// After the moment has come, with the checks that ran until then.
-    fn after_advance(&self, now: u64, checks: &[Option<Check>; 8]) -> Place
+    fn after_advance(&self, now: u64, checks: &[Option<Check>; MOST_IFACES]) -> Place
         ensures { PlaceFollows (AreChecks checks.now) (Advance now) self.now result }
     {
         Place {
@@ -78,8 +75,8 @@ impl Place {
 
     /// After radar. A check that met radar counts no more, though it may run on.
     fn after_radar(&self, now: u64, c: &ChanDef) -> Place
-        requires { now ≤ 10 ^ 15 }
-        ensures { PlaceFollows (λ calls. now_of calls ≡ now) (Radar c.now) self.now result }
+        requires { now ≤ LAST_MOMENT_MS }
+        ensures { PlaceFollows (λ calls. moment_of calls ≡ now) (Radar c.now) self.now result }
     {
         if !covers(c, self.khz) {
             return *self;
@@ -88,7 +85,7 @@ impl Place {
             khz: self.khz,
             until: later(self.until, Some(now + NONOCCUPANCY_MS)),
             since: None,
-            counts: [false; 8],
+            counts: [false; MOST_IFACES],
         }
     }
 
@@ -98,15 +95,15 @@ impl Place {
     {
         Place {
             since: None,
-            counts: [false; 8],
+            counts: [false; MOST_IFACES],
             ..*self
         }
     }
 
     /// After the beginning of a check. One of length 0 is done at once.
     fn after_begin(&self, now: u64, slot: usize, c: &ChanDef, length_ms: u32) -> Place
-        requires { slot < 8 }
-        ensures { PlaceFollows (λ calls. now_of calls ≡ now) (Begin slot c.now length_ms) self.now result }
+        requires { slot < MOST_IFACES }
+        ensures { PlaceFollows (λ calls. moment_of calls ≡ now) (Begin slot c.now length_ms) self.now result }
     {
         let mut counts = self.counts;
         if !covers(c, self.khz) {
@@ -127,8 +124,8 @@ impl Place {
 /// The latest of `since` and of the ends of the checks that count and are done, in ms.
 fn latest_end(
     now: u64,
-    counts: &[bool; 8],
-    checks: &[Option<Check>; 8],
+    counts: &[bool; MOST_IFACES],
+    checks: &[Option<Check>; MOST_IFACES],
     since: Option<u64>,
 ) -> Option<u64>
     ensures { IsMost (λ end. (since ≡ Some end) ⊎ ((slot : ℕ)
@@ -142,7 +139,7 @@ fn latest_end(
 }
 
 /// The moment has come.
-pub(crate) fn advance_each(now: u64, checks: &[Option<Check>; 8], places: &mut [Place])
+pub(crate) fn advance_each(now: u64, checks: &[Option<Check>; MOST_IFACES], places: &mut [Place])
     ensures { EachFollows (PlaceFollows (AreChecks checks.now) (Advance now)) places.old places.new }
 {
     for place in places.iter_mut() {
@@ -152,8 +149,8 @@ pub(crate) fn advance_each(now: u64, checks: &[Option<Check>; 8], places: &mut [
 
 /// There is radar on the channel.
 pub(crate) fn meet_radar(now: u64, c: &ChanDef, places: &mut [Place])
-    requires { now ≤ 10 ^ 15 }
-    ensures { EachFollows (PlaceFollows (λ calls. now_of calls ≡ now) (Radar c.now)) places.old places.new }
+    requires { now ≤ LAST_MOMENT_MS }
+    ensures { EachFollows (PlaceFollows (λ calls. moment_of calls ≡ now) (Radar c.now)) places.old places.new }
 {
     for place in places.iter_mut() {
         *place = place.after_radar(now, c);
@@ -171,8 +168,8 @@ pub(crate) fn change_region(places: &mut [Place])
 
 /// A check begins.
 pub(crate) fn begin_check(now: u64, slot: usize, c: &ChanDef, length_ms: u32, places: &mut [Place])
-    requires { slot < 8 }
-    ensures { EachFollows (PlaceFollows (λ calls. now_of calls ≡ now) (Begin slot c.now length_ms)) places.old places.new }
+    requires { slot < MOST_IFACES }
+    ensures { EachFollows (PlaceFollows (λ calls. moment_of calls ≡ now) (Begin slot c.now length_ms)) places.old places.new }
 {
     for place in places.iter_mut() {
         *place = place.after_begin(now, slot, c, length_ms);

@@ -3,7 +3,7 @@ use Rattle.std.proofs.Common.{◌≡◌, ℕ, ◌+◌, ◌-◌, ◌*◌, ◌/◌
 use Rattle.std.proofs.Math.Nat.{pow-le-pow_right, one-le-pow}
 use Rattle.std.proofs.lemmas.Nat.{pow-add, le-div, div_below, mul-lt, mul-le}
 use Rattle.std.proofs.lemmas.Bool.{cases_lt}
-use Rattle.freq_range.specs.Power.{power, IsDecimal, IsMbm}
+use Rattle.freq_range.specs.Power.{power, IsNextDecimal, IsMbm}
 
 pub power-none : (m : ℕ) → power m 0 ≡ m
 unfolding power
@@ -85,7 +85,7 @@ whole_small mw whole most low = exponent-le mw whole 6 low (omega arith)
 pub pow-small : (n : ℕ) → n ≤ 9 → 10 ^ n < 2 ^ 128
 pow-small n few = let e = pow-le-pow_right {n = 10} (lit< tt) {i = n} {j = 9} few in omega (arith, e)
 
-pub is_decimal : (m n : ℕ) → 12 ≤ n → 10 ^ n ≤ power m 9 → power m 9 < 10 * 10 ^ n → IsDecimal m (n - 12) (power m 9 / 10 ^ (n - 12))
+pub is_decimal : (m n : ℕ) → 12 ≤ n → 10 ^ n ≤ power m 9 → power m 9 < 10 * 10 ^ n → IsNextDecimal m (n - 12) (power m 9 / 10 ^ (n - 12))
 is_decimal m n above low high =
     let e : 12 + (n - 12) ≡ n = omega arith in
     let f : 13 + (n - 12) ≡ n + 1 = omega arith in
@@ -96,7 +96,7 @@ is_decimal m n above low high =
     }
 
 -- a number has one next decimal, and one rest
-pub one_decimal : (m d e next next' : ℕ) → IsDecimal m d next → IsDecimal m e next' → (d ≡ e) × (next ≡ next')
+pub one_decimal : (m d e next next' : ℕ) → IsNextDecimal m d next → IsNextDecimal m e next' → (d ≡ e) × (next ≡ next')
 one_decimal m d e next next' one other =
     let more = λ (k : ℕ). let f : 12 + k + 1 ≡ 13 + k = omega arith in f in
     let same = one_exponent (power m 9) (12 + d) (12 + e) one.least (rw (more d) one.most) other.least (rw (more e) other.most) in
@@ -108,9 +108,9 @@ pub one_mbm : (mw a b : ℕ) → IsMbm mw a → IsMbm mw b → a ≡ b
 one_mbm mw a b x y =
     let w = one_exponent mw x.whole y.whole x.whole_least x.whole_most y.whole_least y.whole_most in
     let m = ap (λ k. mw * 10 ^ 12 / 10 ^ k) w in
-    let p = one_decimal _ _ _ _ _ x.is_first (subst (λ (n : ℕ). IsDecimal n y.first y.after_first) (sym m) y.is_first) in
-    let q = one_decimal _ _ _ _ _ x.is_second (subst (λ (n : ℕ). IsDecimal n y.second y.after_second) (sym p.1) y.is_second) in
-    let r = one_decimal _ _ _ _ _ x.is_third (subst (λ (n : ℕ). IsDecimal n y.third y.after_third) (sym q.1) y.is_third) in
+    let p = one_decimal _ _ _ _ _ x.is_first (subst (λ (n : ℕ). IsNextDecimal n y.first y.after_first) (sym m) y.is_first) in
+    let q = one_decimal _ _ _ _ _ x.is_second (subst (λ (n : ℕ). IsNextDecimal n y.second y.after_second) (sym p.1) y.is_second) in
+    let r = one_decimal _ _ _ _ _ x.is_third (subst (λ (n : ℕ). IsNextDecimal n y.third y.after_third) (sym q.1) y.is_third) in
     omega (arith, x.sum, y.sum, w, p.0, q.0, r.0)
 
 pub left_most_of : (p n : ℕ) → 12 ≤ n → p < 10 * 10 ^ n → p / 10 ^ (n - 12) < 10 ^ 13

@@ -13,7 +13,7 @@ power m (suc n) = power m n * m / 10 ^ 12
 
 -- The next decimal of the logarithm of m: it is how often the tenth power can be divided by ten while it is at least
 -- ten, and next is what is left of it, a number from 1 to below 10.
-pub record IsDecimal (m digit next : ℕ) : Type 0 where
+pub record IsNextDecimal (m digit next : ℕ) : Type 0 where
   pub least : 10 ^ (12 + digit) ≤ power m 9
   pub most : power m 9 < 10 ^ (13 + digit)
   pub left : next ≡ power m 9 / 10 ^ digit
@@ -31,7 +31,7 @@ pub record IsMbm (mw mbm : ℕ) : Type 0 where
   pub after_first : ℕ
   pub after_second : ℕ
   pub after_third : ℕ
-  pub is_first : IsDecimal (mw * 10 ^ 12 / 10 ^ whole) first after_first
-  pub is_second : IsDecimal after_first second after_second
-  pub is_third : IsDecimal after_second third after_third
+  pub is_first : IsNextDecimal (mw * 10 ^ 12 / 10 ^ whole) first after_first
+  pub is_second : IsNextDecimal after_first second after_second
+  pub is_third : IsNextDecimal after_second third after_third
   pub sum : mbm ≡ 1000 * whole + 100 * first + 10 * second + third

@@ -2,7 +2,7 @@
 
 ghost use Rattle.std.specs.Prelude.{◌≡◌, ℕ, ◌↔◌, ◌<◌, ◌⊎◌, IsTrue, IfSome, MatchOption};
 ghost use Rattle.freq_range.specs.declared.channel.Band.{Band};
-ghost use Rattle.freq_range.specs.Channels.{IsChannel, IsStep};
+ghost use Rattle.freq_range.specs.Channels.{IsChannel, IsStepOfFour};
 
 /// A band of channels (`enum nl80211_band`).
 #[derive(Clone, Copy, Debug, PartialEq, Eq)]
@@ -65,14 +65,14 @@ fn candidate(khz: u32) -> (Band, u32)
 
 /// Whether the number is one of those in 5 GHz.
 fn is_ghz5_number(n: u8) -> bool
-    ensures { IsTrue result ↔ (IsStep 36 64 n ⊎ (IsStep 100 144 n ⊎ IsStep 149 177 n)) }
+    ensures { IsTrue result ↔ (IsStepOfFour 36 64 n ⊎ (IsStepOfFour 100 144 n ⊎ IsStepOfFour 149 177 n)) }
 {
     is_step(36, 64, n) || is_step(100, 144, n) || is_step(149, 177, n)
 }
 
 /// Whether the number is one of `first`, `first + 4` and so on to `last`.
 fn is_step(first: u8, last: u8, n: u8) -> bool
-    ensures { IsTrue result ↔ IsStep first last n }
+    ensures { IsTrue result ↔ IsStepOfFour first last n }
 {
     first <= n && n <= last && (n - first) % 4 == 0
 }

@@ -2,7 +2,6 @@
 #![tactic(auto)]
 
 mod channel;
-mod errors;
 mod flags;
 mod list;
 mod power;
@@ -11,7 +10,6 @@ mod rule;
 mod wmm;
 
 pub use channel::{Band, channel_khz, khz_channel};
-pub use errors::OutOfMemory;
 pub use flags::RuleFlags;
 pub use list::{RuleList, contains_rule};
 pub use power::mw_to_mbm;

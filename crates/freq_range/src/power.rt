@@ -4,7 +4,7 @@
 //! decimal is dropped.
 
 ghost use Rattle.std.specs.Prelude.{◌≡◌, ℕ, ◌+◌, ◌*◌, ◌/◌, ◌^◌, ◌<◌, ◌≤◌, IfSome, MatchOption};
-ghost use Rattle.freq_range.specs.Power.{power, IsDecimal, IsMbm, IsMilliwatts};
+ghost use Rattle.freq_range.specs.Power.{power, IsNextDecimal, IsMbm, IsMilliwatts};
 
 /// The number 1, with 12 decimals.
 const ONE: u128 = 1_000_000_000_000;
@@ -57,7 +57,7 @@ fn mantissa(mw: u32, whole: u32) -> u128
 fn next_decimal(mantissa: u128) -> Decimal
     requires at_least_one { 10 ^ 12 ≤ mantissa }
     requires below_ten { mantissa < 10 ^ 13 }
-    ensures value { IsDecimal mantissa result.digit result.rest }
+    ensures value { IsNextDecimal mantissa result.digit result.rest }
     ensures digit { result.digit < 10 }
     ensures at_least_one { 10 ^ 12 ≤ result.rest }
     ensures below_ten { result.rest < 10 ^ 13 }

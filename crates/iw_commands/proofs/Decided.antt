@@ -9,7 +9,8 @@ use Rattle.rule_tables.specs.Code.{IsCode}
 use Rattle.rule_tables.specs.declared.code.Alpha2.{Alpha2}
 use Rattle.chan_flags.specs.Profiles.{Abilities, IsProfile, has_some, is_width}
 use Rattle.radio_drv.specs.Names.{IsName, IsVisible}
-use Rattle.iw_commands.specs.Reading.{is_code, is_name, is_profile, is_visible}
+use Rattle.rule_tables.specs.Code.{is_code}
+use Rattle.iw_commands.specs.inner.Reading.{is_iface_name, is_profile, is_visible}
 
 is_false : (b : Bool) → (b ≡ true → ⊥) → b ≡ false
 is_false true h = absurd (h refl)
@@ -37,18 +38,18 @@ is-visible b h = grind (arith, nat_tests)
 visible_bytes : (name : List ℕ) → Decides (list_all is_visible name) (All IsVisible name)
 visible_bytes = Decides-by_and is_visible IsVisible (list_all is_visible) (λ b. (visible-is b, is-visible b)) refl (λ _ _. refl)
 
-pub is_name-to : (name : List ℕ) → is_name name ≡ true → IsName name
+pub is_name-to : (name : List ℕ) → is_iface_name name ≡ true → IsName name
 is_name-to name e =
     let p = and_parts (leb 1 (length name) && leb (length name) 15) (list_all is_visible name) e in
     let q = and_parts (leb 1 (length name)) (leb (length name) 15) p.0 in
     record { some = leb-true 1 (length name) q.0; few = leb-true (length name) 15 q.1; visible = (visible_bytes name).0 p.1 }
 
-pub is_name-from : (name : List ℕ) → IsName name → is_name name ≡ true
+pub is_name-from : (name : List ℕ) → IsName name → is_iface_name name ≡ true
 is_name-from name h =
     and_from (leb 1 (length name) && leb (length name) 15) (list_all is_visible name) (and_from (leb 1 (length name)) (leb (length name) 15) (le-leb 1 (length name) h.some) (le-leb (length name) 15 h.few)) ((visible_bytes name).1 h.visible)
 
-pub is_name-not : (name : List ℕ) → (IsName name → ⊥) → is_name name ≡ false
-is_name-not name h = is_false (is_name name) (λ e. h (is_name-to name e))
+pub is_name-not : (name : List ℕ) → (IsName name → ⊥) → is_iface_name name ≡ false
+is_name-not name h = is_false (is_iface_name name) (λ e. h (is_name-to name e))
 
 pub ruleset steps = (is_code-from, is_code-not, is_name-from, is_name-not)
 

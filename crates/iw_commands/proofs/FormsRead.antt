@@ -10,7 +10,8 @@ use Rattle.chan_flags.specs.Profiles.{Abilities}
 use Rattle.radio_drv.specs.Names.{IsName}
 use Rattle.reg_journal.specs.declared.request.Request.{Request}
 use Rattle.reg_journal.specs.declared.request.Request.TheVariants.{At, RadioAdd, UserHint, IfaceAdd, Start, Stop}
-use Rattle.iw_commands.specs.Reading.{◌>>=◌, after, ap_of, ap_start, ap_stop, at_moment, iw, iw_dev, iw_of, iw_phy, next_word, radio_add, reg_set, request_in, request_of}
+use Rattle.reg_base.specs.Texts.{◌>>=◌}
+use Rattle.iw_commands.specs.inner.Reading.{after_this_word, ap_of, ap_start, ap_stop, at_moment, iw, iw_dev, iw_of, iw_phy, next_word, radio_add, reg_set, request_in, request_of}
 use Rattle.iw_commands.specs.Spelling.{IsPlainProfile, Spells, SpellsApStart, SpellsIfaceAdd, SpellsRadioAdd, code_text, noht_at, radio_text}
 use Rattle.iw_commands.proofs.PiecesRead.{channel_at-again, channel_at-reads, code_at-again, code_at-reads, name_at-again, name_at-reads, period_at-again, period_at-reads, profile_at-again, profile_at-reads, profile_words, radio_at-again, radio_at-reads, ssid_at-again, ssid_at-reads}
 use Rattle.iw_commands.proofs.WordsRead.{after-again, after-reads, bind_some, chosen, number_at-again, number_at-reads, same_bytes-reads, whole-again, whole-reads}
@@ -140,7 +141,7 @@ iw_dev-reads : (ws : List (List ℕ)) (q : Request) → iw_dev ws ≡ Some q →
 unfolding iw_dev
 iw_dev-reads ws q e =
     let name = bind_some _ _ _ e in
-    let behind = bind_some (after (codes "ap") name.0.1) (λ us. next_word us >>= ap_of name.0.0) q name.2 in
+    let behind = bind_some (after_this_word (codes "ap") name.0.1) (λ us. next_word us >>= ap_of name.0.0) q name.2 in
     let n = name_at-reads ws name.0.1 name.0.0 name.1 in
     let stands : ws ≡ name.0.0 ∷ codes "ap" ∷ behind.0 = n.stands ∙ ap (λ us. name.0.0 ∷ us) (after-reads (codes "ap") name.0.1 behind.0 behind.1) in
     rw stands (action-reads name.0.0 behind.0 q n.is behind.2)

@@ -3,8 +3,8 @@ use Rattle.std.proofs.Common.{◌≡◌, ℕ, List, [], ◌∷◌, true, false, 
 use Rattle.std.proofs.lemmas.Bool.{eqb-true}
 use Rattle.std.proofs.lemmas.Option.{same_Some, some_pair_parts}
 use Rattle.reg_journal.specs.declared.request.Request.{Request}
-use Rattle.iw_commands.specs.Lines.{AreSilent, Asks, AsksNothing, IsPermitted, Says, SaysInWords}
-use Rattle.iw_commands.specs.Reading.{begins_comment, next_word, request_in, request_of}
+use Rattle.iw_commands.specs.Lines.{AreSilent, Asks, AsksNothing, IsScriptLine, Says, SaysInWords}
+use Rattle.iw_commands.specs.inner.Reading.{begins_comment, next_word, request_in, request_of}
 use Rattle.iw_commands.specs.Spelling.{Spells}
 use Rattle.iw_commands.specs.Words.{words_of}
 use Rattle.iw_commands.specs.declared.fault.LineFault.{LineFault}
@@ -69,10 +69,10 @@ says-fault ws rest w e h none = rw (stands ws rest w e) (word-unsilent w rest h,
 
 -- ---- what lines say
 
-pub says-permitted : (line : List ℕ) (r : Result (Option Request) LineFault) → IsPermitted line → SaysInWords (words_of line) r → Says line r
+pub says-permitted : (line : List ℕ) (r : Result (Option Request) LineFault) → IsScriptLine line → SaysInWords (words_of line) r → Says line r
 says-permitted line (Ok (Some q)) is says = record { permitted = is; spelled = says }
 says-permitted line (Ok None) is says = record { permitted = is; silent = says }
 says-permitted line (Err NotBuilt) is says = (λ nothing. says.0 nothing.silent, λ q asks. says.1 q asks.spelled)
 
-pub says-unpermitted : (line : List ℕ) → (IsPermitted line → ⊥) → Says line (Err NotBuilt)
+pub says-unpermitted : (line : List ℕ) → (IsScriptLine line → ⊥) → Says line (Err NotBuilt)
 says-unpermitted line isnt = (λ nothing. isnt nothing.permitted, λ q asks. isnt asks.permitted)

@@ -9,7 +9,7 @@ use Rattle.std.proofs.lemmas.Bool.Decides.{nat_tests}
 use Rattle.std.proofs.lemmas.Fmt.{decimal-digits_value, decimal_nonempty, digits_decimal, digits_value-decimal, first_decimal, decimal_digit, IsAscii-from_digits}
 use Rattle.std.proofs.lemmas.Str.{IsUtf8-from_ascii}
 use Rattle.std.proofs.lemmas.Str.Parse.{IsNumeralModel, numerals_by_value, parse_plain, tells_all_ascii_digits}
-use Rattle.iw_commands.specs.Reading.{begins_number, number_of}
+use Rattle.iw_commands.specs.inner.Reading.{begins_number, number_of_word}
 
 own : IsNumeralModel (λ ds. all_ascii_digits ds ≡ true) (digits_value 10)
 own = numerals_by_value (λ ds. all_ascii_digits ds ≡ true) tells_all_ascii_digits
@@ -34,19 +34,19 @@ unread true true false v h = refl
 unread true false c v h = refl
 unread false b c v h = refl
 
-pub number_of-none : (ds : List ℕ) → begins_number ds ≡ false → None ≡ number_of ds
-unfolding number_of
+pub number_of-none : (ds : List ℕ) → begins_number ds ≡ false → None ≡ number_of_word ds
+unfolding number_of_word
 number_of-none ds h = unread (all_ascii_digits ds) (begins_number ds) (nat_lt (digits_value 10 ds) (2 ^ 64)) (digits_value 10 ds) (λ a b c. absurd cc)
 
-pub number_of-other : (ds : List ℕ) → (IsUtf8 ds → ⊥) → None ≡ number_of ds
-unfolding number_of
+pub number_of-other : (ds : List ℕ) → (IsUtf8 ds → ⊥) → None ≡ number_of_word ds
+unfolding number_of_word
 number_of-other ds h = unread (all_ascii_digits ds) (begins_number ds) (nat_lt (digits_value 10 ds) (2 ^ 64)) (digits_value 10 ds) (λ a b c. h (IsUtf8-from_ascii ds (IsAscii-from_digits ds (own.to ds a))))
 
 below-from : (v : ℕ) → v < 2 ^ 64 → nat_lt v (2 ^ 64) ≡ true
 below-from v h = grind (arith, nat_tests)
 
-pub number_of-parsed : {E : Type 0} (ds bs : List ℕ) (r : Result ℕ E) → begins_number ds ≡ true → bs ≡ ds → ParsesUnsigned 64 10 bs r → result_ok r ≡ number_of ds
-unfolding number_of
+pub number_of-parsed : {E : Type 0} (ds bs : List ℕ) (r : Result ℕ E) → begins_number ds ≡ true → bs ≡ ds → ParsesUnsigned 64 10 bs r → result_ok r ≡ number_of_word ds
+unfolding number_of_word
 number_of-parsed {E} ds bs (Ok n) begins same parses =
     let p = parse_plain own {E = E} 64 ds (Ok n) (rw same at parses) (begins-digit ds begins) in
     let value : n ≡ digits_value 10 ds = p.1 in
@@ -77,8 +77,8 @@ decimal-leads n fits e = elim (cases_eq n 0) [
 ]
 
 -- what spells a number is read as it
-pub number_of-again : (n : ℕ) → n < 2 ^ 64 → number_of (decimal n) ≡ Some n
-unfolding number_of
+pub number_of-again : (n : ℕ) → n < 2 ^ 64 → number_of_word (decimal n) ≡ Some n
+unfolding number_of_word
 number_of-again n fits =
     let digits : all_ascii_digits (decimal n) ≡ true = digits_decimal own n fits in
     let value : digits_value 10 (decimal n) ≡ n = digits_value-decimal own n fits in
@@ -96,8 +96,8 @@ pub record ReadsNumber (ds : List ℕ) (n : ℕ) : Type 0 where
   pub fits : n < 2 ^ 64
 
 -- what is read as a number spells it
-pub number_of-reads : (ds : List ℕ) (n : ℕ) → number_of ds ≡ Some n → ReadsNumber ds n
-unfolding number_of
+pub number_of-reads : (ds : List ℕ) (n : ℕ) → number_of_word ds ≡ Some n → ReadsNumber ds n
+unfolding number_of_word
 number_of-reads ds n e =
     let t = taken (all_ascii_digits ds) (begins_number ds) (nat_lt (digits_value 10 ds) (2 ^ 64)) (digits_value 10 ds) n e in
     let fits : digits_value 10 ds < 2 ^ 64 = ltb-true _ _ t.2 in

@@ -11,7 +11,9 @@ use Rattle.chan_def.specs.declared.definition.ChanDef.{ChanDef}
 use Rattle.chan_flags.specs.Profiles.{Abilities, abilities, has_some, is_width}
 use Rattle.chan_flags.specs.declared.profile.Bands.{Bands}
 use Rattle.radio_drv.specs.Names.{IsName}
-use Rattle.iw_commands.specs.Reading.{bands_at, bands_of, behind, channel_at, channel_named, code_at, code_of, is_code, is_name, is_profile, name_at, name_of, number_of, period_at, profile_at, profile_of, radio_at, radio_of, same_bytes, ssid_at}
+use Rattle.rule_tables.specs.Code.{is_code}
+use Rattle.reg_base.specs.Texts.{same_bytes}
+use Rattle.iw_commands.specs.inner.Reading.{bands_at, bands_of, behind, channel_from, channel_named, code_from_word, code_of_word, is_iface_name, is_profile, name_at, name_of_word, number_of_word, period_at, profile_at, profile_of_words, radio_at, radio_of_word, ssid_at}
 use Rattle.iw_commands.specs.Spelling.{IsPlainProfile, bands_text, code_text, noht_at, radio_text}
 use Rattle.iw_commands.proofs.Decided.{is_code-from, is_code-to, is_name-from, is_name-to, is_profile-from, is_profile-to}
 use Rattle.iw_commands.proofs.Numbers.{number_of-again, number_of-reads}
@@ -28,17 +30,17 @@ pub record ReadsRadio (word : List ℕ) (radio : ℕ) : Type 0 where
   pub spelled : word ≡ radio_text radio
   pub number : radio ≤ 7
 
-radio_of-reads : (word : List ℕ) (radio : ℕ) → radio_of word ≡ Some radio → ReadsRadio word radio
-unfolding radio_of
+radio_of-reads : (word : List ℕ) (radio : ℕ) → radio_of_word word ≡ Some radio → ReadsRadio word radio
+unfolding radio_of_word
 radio_of-reads word radio e =
     let digits = bind_some (behind (codes "phy") word) _ _ e in
-    let number = bind_some (number_of digits.0) _ _ digits.2 in
+    let number = bind_some (number_of_word digits.0) _ _ digits.2 in
     let u = up_to-reads 7 number.0 radio number.2 in
     let spelled : digits.0 ≡ decimal radio = (number_of-reads digits.0 number.0 number.1).spelled ∙ ap decimal u.0 in
     record { spelled = behind-reads (codes "phy") word digits.0 digits.1 ∙ ap (λ ds. codes "phy" ++ ds) spelled; number = u.1 }
 
-radio_of-again : (radio : ℕ) → radio ≤ 7 → radio_of (radio_text radio) ≡ Some radio
-unfolding radio_of
+radio_of-again : (radio : ℕ) → radio ≤ 7 → radio_of_word (radio_text radio) ≡ Some radio
+unfolding radio_of_word
 radio_of-again radio few = rw (number_of-again radio (omega arith)) (up_to-again 7 radio few)
 
 pub record ReadsRadioAt (ws rest : List (List ℕ)) (radio : ℕ) : Type 0 where
@@ -48,13 +50,13 @@ pub record ReadsRadioAt (ws rest : List (List ℕ)) (radio : ℕ) : Type 0 where
 pub radio_at-reads : (ws rest : List (List ℕ)) (radio : ℕ) → radio_at ws ≡ Some (radio, rest) → ReadsRadioAt ws rest radio
 unfolding radio_at
 radio_at-reads ws rest radio e =
-    let w = word_as-reads radio_of ws rest radio e in
+    let w = word_as-reads radio_of_word ws rest radio e in
     let r = radio_of-reads w.word radio w.read_so in
     record { stands = w.stands ∙ ap (λ word. word ∷ rest) r.spelled; number = r.number }
 
 pub radio_at-again : (radio : ℕ) (rest : List (List ℕ)) → radio ≤ 7 → radio_at (radio_text radio ∷ rest) ≡ Some (radio, rest)
 unfolding radio_at
-radio_at-again radio rest few = word_as-again radio_of (radio_text radio) rest radio (radio_of-again radio few)
+radio_at-again radio rest few = word_as-again radio_of_word (radio_text radio) rest radio (radio_of-again radio few)
 
 -- ---- bands
 
@@ -104,8 +106,8 @@ pub record ReadsCode (word : List ℕ) (code : Alpha2) : Type 0 where
   pub spelled : word ≡ code_text code
   pub is : IsCode code
 
-code_of-reads : (word : List ℕ) (code : Alpha2) → code_of word ≡ Some code → ReadsCode word code
-unfolding code_of
+code_of-reads : (word : List ℕ) (code : Alpha2) → code_of_word word ≡ Some code → ReadsCode word code
+unfolding code_of_word
 code_of-reads [] code e = absurd cc
 code_of-reads (a ∷ []) code e = absurd cc
 code_of-reads (a ∷ b ∷ []) code e =
@@ -114,24 +116,24 @@ code_of-reads (a ∷ b ∷ []) code e =
     subst (ReadsCode (a ∷ b ∷ [])) t.1 (record { spelled = refl; is = is_code-to a b t.0 })
 code_of-reads (a ∷ b ∷ c ∷ bs) code e = absurd cc
 
-code_of-again : (code : Alpha2) → IsCode code → code_of (code_text code) ≡ Some code
-unfolding code_of
+code_of-again : (code : Alpha2) → IsCode code → code_of_word (code_text code) ≡ Some code
+unfolding code_of_word
 code_of-again code is = rw (is_code-from code is) refl
 
 pub record ReadsCodeAt (ws rest : List (List ℕ)) (code : Alpha2) : Type 0 where
   pub stands : ws ≡ code_text code ∷ rest
   pub is : IsCode code
 
-pub code_at-reads : (ws rest : List (List ℕ)) (code : Alpha2) → code_at ws ≡ Some (code, rest) → ReadsCodeAt ws rest code
-unfolding code_at
+pub code_at-reads : (ws rest : List (List ℕ)) (code : Alpha2) → code_from_word ws ≡ Some (code, rest) → ReadsCodeAt ws rest code
+unfolding code_from_word
 code_at-reads ws rest code e =
-    let w = word_as-reads code_of ws rest code e in
+    let w = word_as-reads code_of_word ws rest code e in
     let r = code_of-reads w.word code w.read_so in
     record { stands = w.stands ∙ ap (λ word. word ∷ rest) r.spelled; is = r.is }
 
-pub code_at-again : (code : Alpha2) (rest : List (List ℕ)) → IsCode code → code_at (code_text code ∷ rest) ≡ Some (code, rest)
-unfolding code_at
-code_at-again code rest is = word_as-again code_of (code_text code) rest code (code_of-again code is)
+pub code_at-again : (code : Alpha2) (rest : List (List ℕ)) → IsCode code → code_from_word (code_text code ∷ rest) ≡ Some (code, rest)
+unfolding code_from_word
+code_at-again code rest is = word_as-again code_of_word (code_text code) rest code (code_of-again code is)
 
 -- ---- names
 
@@ -140,14 +142,14 @@ pub record ReadsNameAt (ws rest : List (List ℕ)) (name : List ℕ) : Type 0 wh
   pub is : IsName name
 
 pub name_at-reads : (ws rest : List (List ℕ)) (name : List ℕ) → name_at ws ≡ Some (name, rest) → ReadsNameAt ws rest name
-unfolding name_at name_of
+unfolding name_at name_of_word
 name_at-reads ws rest name e =
-    let w = word_as-reads name_of ws rest name e in
-    let t = cond_some (is_name w.word) w.word name w.read_so in
+    let w = word_as-reads name_of_word ws rest name e in
+    let t = cond_some (is_iface_name w.word) w.word name w.read_so in
     record { stands = w.stands ∙ ap (λ word. word ∷ rest) t.1; is = subst IsName t.1 (is_name-to w.word t.0) }
 
 pub name_at-again : (name : List ℕ) (rest : List (List ℕ)) → IsName name → name_at (name ∷ rest) ≡ Some (name, rest)
-unfolding name_at name_of
+unfolding name_at name_of_word
 name_at-again name rest is = rw (is_name-from name is) refl
 
 -- ---- what an access point is given
@@ -159,8 +161,8 @@ pub record ReadsChannelAt (ws rest : List (List ℕ)) (c : ChanDef) : Type 0 whe
   pub few : mhz ≤ 100000
   pub channel : c ≡ noht_at mhz
 
-pub channel_at-reads : (ws rest : List (List ℕ)) (c : ChanDef) → channel_at ws ≡ Some (c, rest) → ReadsChannelAt ws rest c
-unfolding channel_at channel_named
+pub channel_at-reads : (ws rest : List (List ℕ)) (c : ChanDef) → channel_from ws ≡ Some (c, rest) → ReadsChannelAt ws rest c
+unfolding channel_from channel_named
 channel_at-reads ws rest c e =
     let mhz = bind_some _ _ _ e in
     let named = bind_some (channel_named mhz.0.0) _ _ mhz.2 in
@@ -176,8 +178,8 @@ channel_at-reads ws rest c e =
       channel = sym (t.1 ∙ p.0);
     }
 
-pub channel_at-again : (mhz : ℕ) (rest : List (List ℕ)) → 1 ≤ mhz → mhz ≤ 100000 → channel_at (decimal mhz ∷ rest) ≡ Some (noht_at mhz, rest)
-unfolding channel_at channel_named
+pub channel_at-again : (mhz : ℕ) (rest : List (List ℕ)) → 1 ≤ mhz → mhz ≤ 100000 → channel_from (decimal mhz ∷ rest) ≡ Some (noht_at mhz, rest)
+unfolding channel_from channel_named
 channel_at-again mhz rest some few =
     rw (number_at-again mhz rest (omega arith), and_from (leb 1 mhz) (leb mhz 100000) (le-leb 1 mhz some) (le-leb mhz 100000 few)) refl
 
@@ -233,7 +235,7 @@ profile_of-plain bands width radar power contexts is small =
     record { profile = is_profile-to (abilities bands width radar power contexts false false) is (omega arith); not_self_managed = refl; not_deaf = refl }
 
 pub profile_at-reads : (ws rest : List (List ℕ)) (p : Abilities) → profile_at ws ≡ Some (p, rest) → ReadsProfileAt ws rest p
-unfolding profile_at profile_of
+unfolding profile_at profile_of_words
 profile_at-reads ws rest p e =
     let label = bind_some _ _ _ e in
     let bands = bind_some _ _ _ label.2 in
@@ -267,7 +269,7 @@ radar_small : (mhz : ℕ) → (mhz == 0 || is_width mhz) ≡ true → mhz ≤ 65
 radar_small mhz h = grind (arith, nat_tests)
 
 pub profile_at-again : (p : Abilities) (rest : List (List ℕ)) → IsPlainProfile p → profile_at (profile_words p rest) ≡ Some (p, rest)
-unfolding profile_at profile_of
+unfolding profile_at profile_of_words
 profile_at-again p rest plain =
     let some : has_some p.bands ≡ true = plain.profile.some_band in
     let width : p.width_mhz ≤ 65535 = width_small p.width_mhz plain.profile.width in

@@ -4,7 +4,9 @@ use Rattle.std.specs.Prelude.{decimal}
 use Rattle.std.proofs.lemmas.Bool.{le-leb, leb-true}
 use Rattle.std.proofs.lemmas.Option.{cond_some, some_pair_parts}
 use Rattle.std.proofs.lemmas.Slice.Eq.{bytes_eq-Decides}
-use Rattle.iw_commands.specs.Reading.{◌>>=◌, after, labelled_at, number_at, number_of, same_bytes, small_number_at, up_to, whole, word_as}
+use Rattle.reg_base.specs.Texts.{same_bytes}
+use Rattle.reg_base.specs.Texts.{◌>>=◌}
+use Rattle.iw_commands.specs.inner.Reading.{after_this_word, labelled_at, number_from_word, number_of_word, small_number_at, up_to, whole, word_as}
 use Rattle.iw_commands.proofs.Numbers.{number_of-again, number_of-reads}
 
 -- ---- steps
@@ -27,15 +29,15 @@ same_bytes-reads xs ys = (bytes_eq-Decides xs ys).0
 same_bytes-again : (xs : List ℕ) → same_bytes xs xs ≡ true
 same_bytes-again xs = (bytes_eq-Decides xs xs).1 refl
 
-pub after-reads : (text : List ℕ) (ws rest : List (List ℕ)) → after text ws ≡ Some rest → ws ≡ text ∷ rest
-unfolding after
+pub after-reads : (text : List ℕ) (ws rest : List (List ℕ)) → after_this_word text ws ≡ Some rest → ws ≡ text ∷ rest
+unfolding after_this_word
 after-reads text [] rest e = absurd cc
 after-reads text (w ∷ ws) rest e =
     let t = cond_some (same_bytes w text) ws rest e in
     rw (same_bytes-reads w text t.0, t.1) refl
 
-pub after-again : (text : List ℕ) (ws : List (List ℕ)) → after text (text ∷ ws) ≡ Some ws
-unfolding after
+pub after-again : (text : List ℕ) (ws : List (List ℕ)) → after_this_word text (text ∷ ws) ≡ Some ws
+unfolding after_this_word
 after-again text ws = rw (same_bytes-again text) refl
 
 pub whole-reads : (ws rest : List (List ℕ)) → whole ws ≡ Some rest → ws ≡ []
@@ -70,16 +72,16 @@ pub record ReadsNumberAt (ws rest : List (List ℕ)) (n : ℕ) : Type 0 where
   pub stands : ws ≡ decimal n ∷ rest
   pub fits : n < 2 ^ 64
 
-pub number_at-reads : (ws rest : List (List ℕ)) (n : ℕ) → number_at ws ≡ Some (n, rest) → ReadsNumberAt ws rest n
-unfolding number_at
+pub number_at-reads : (ws rest : List (List ℕ)) (n : ℕ) → number_from_word ws ≡ Some (n, rest) → ReadsNumberAt ws rest n
+unfolding number_from_word
 number_at-reads ws rest n e =
-    let w = word_as-reads number_of ws rest n e in
+    let w = word_as-reads number_of_word ws rest n e in
     let m = number_of-reads w.word n w.read_so in
     record { stands = w.stands ∙ ap (λ word. word ∷ rest) m.spelled; fits = m.fits }
 
-pub number_at-again : (n : ℕ) (rest : List (List ℕ)) → n < 2 ^ 64 → number_at (decimal n ∷ rest) ≡ Some (n, rest)
-unfolding number_at
-number_at-again n rest fits = word_as-again number_of (decimal n) rest n (number_of-again n fits)
+pub number_at-again : (n : ℕ) (rest : List (List ℕ)) → n < 2 ^ 64 → number_from_word (decimal n ∷ rest) ≡ Some (n, rest)
+unfolding number_from_word
+number_at-again n rest fits = word_as-again number_of_word (decimal n) rest n (number_of-again n fits)
 
 pub up_to-reads : (most n m : ℕ) → up_to most n ≡ Some m → (n ≡ m) × (m ≤ most)
 up_to-reads most n m e =

@@ -3,4 +3,4 @@ pub mod Lines
 pub mod Scripts
 pub mod Spelling
 pub mod Printed
-pub mod Reading
+pub mod inner

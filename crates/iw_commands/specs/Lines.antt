@@ -11,7 +11,7 @@ abbrev pub IsLineByte : ℕ → Type 0
 IsLineByte b = ((32 ≤ b) × (b ≤ 126)) ⊎ (b ≡ 9)
 
 -- a line may have at most 4,096 bytes, each of that kind
-pub record IsPermitted (line : List ℕ) : Type 0 where
+pub record IsScriptLine (line : List ℕ) : Type 0 where
   pub short : length line ≤ 4096
   pub each : All IsLineByte line
 
@@ -22,12 +22,12 @@ AreSilent (word ∷ words) = (comment : List ℕ) × (word ≡ codes "#" ++ comm
 
 -- the line is a blank one or a comment
 pub record AsksNothing (line : List ℕ) : Type 0 where
-  pub permitted : IsPermitted line
+  pub permitted : IsScriptLine line
   pub silent : AreSilent (words_of line)
 
 -- the line asks this
 pub record Asks (line : List ℕ) (q : Request) : Type 0 where
-  pub permitted : IsPermitted line
+  pub permitted : IsScriptLine line
   pub spelled : Spells (words_of line) q
 
 -- what the line says: a request, nothing, or, where it says neither, which fault it has

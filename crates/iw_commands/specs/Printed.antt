@@ -1,5 +1,6 @@
 -- The texts of replies and of faults of lines. Each line ends with a newline.
 use Rattle.std.specs.Prelude.{◌≡◌, ℕ, ◌/◌, List, ◌++◌, codes, decimal}
+use Rattle.reg_base.specs.Texts.{line_of}
 use Rattle.std.specs.List.{flat_map}
 use Rattle.reg_hints.specs.declared.hint.Treatment.TheVariants.{Replace, Intersect, Already, Ignore}
 use Rattle.reg_journal.specs.declared.effects.Effect.{Effect}
@@ -21,13 +22,9 @@ pub record Keeps (before now : List ℕ) : Type 0 where
   pub more : List ℕ
   pub is : now ≡ before ++ more
 
--- a text, and a newline
-abbrev pub line_of : List ℕ → List ℕ
-line_of text = text ++ codes "\n"
-
 -- kHz in whole MHz, rounded down
-abbrev pub mhz_text : ℕ → List ℕ
-mhz_text khz = decimal (khz / 1000)
+abbrev pub whole_mhz_text : ℕ → List ℕ
+whole_mhz_text khz = decimal (khz / 1000)
 
 -- ---- answers
 
@@ -49,18 +46,18 @@ refusal_text Full = codes "full"
 refusal_text WrongType = codes "wrong type"
 refusal_text Busy = codes "busy"
 refusal_text BadChannel = codes "bad channel"
-refusal_text (RadioLacks khz) = codes "radio lacks " ++ mhz_text khz
+refusal_text (RadioLacks khz) = codes "radio lacks " ++ whole_mhz_text khz
 refusal_text (RadioLacksWidth mhz) = codes "radio lacks width " ++ decimal mhz
 refusal_text (RadioLacksContext contexts) = codes "radio lacks context " ++ decimal contexts
-refusal_text (NoRule khz) = codes "no rule " ++ mhz_text khz
-refusal_text (Width khz) = codes "width " ++ mhz_text khz
-refusal_text (NoOfdm khz) = codes "NO-OFDM " ++ mhz_text khz
-refusal_text (NoIr khz) = codes "NO-IR " ++ mhz_text khz
-refusal_text (NoOutdoor khz) = codes "NO-OUTDOOR " ++ mhz_text khz
+refusal_text (NoRule khz) = codes "no rule " ++ whole_mhz_text khz
+refusal_text (Width khz) = codes "width " ++ whole_mhz_text khz
+refusal_text (NoOfdm khz) = codes "NO-OFDM " ++ whole_mhz_text khz
+refusal_text (NoIr khz) = codes "NO-IR " ++ whole_mhz_text khz
+refusal_text (NoOutdoor khz) = codes "NO-OUTDOOR " ++ whole_mhz_text khz
 refusal_text (Power limit) = codes "power " ++ decimal limit
 refusal_text (RadioLacksRadarWidth mhz) = codes "radio lacks radar width " ++ decimal mhz
-refusal_text (Radar khz) = codes "radar " ++ mhz_text khz
-refusal_text (Unchecked khz) = codes "unchecked " ++ mhz_text khz
+refusal_text (Radar khz) = codes "radar " ++ whole_mhz_text khz
+refusal_text (Unchecked khz) = codes "unchecked " ++ whole_mhz_text khz
 refusal_text DriverFailed = codes "driver failed"
 refusal_text NothingToCheck = codes "nothing to check"
 refusal_text NotRunning = codes "not running"

@@ -9,5 +9,5 @@ without_empty_last ([] ∷ []) = []
 without_empty_last (part ∷ parts) = part ∷ without_empty_last parts
 
 -- the lines: the parts of the script round its newline bytes
-abbrev pub lines_of : List ℕ → List (List ℕ)
-lines_of script = without_empty_last (slice_split (λ b. b == 10) script)
+abbrev pub script_lines : List ℕ → List (List ℕ)
+script_lines script = without_empty_last (slice_split (λ b. b == 10) script)

@@ -3,8 +3,8 @@ use Rattle.std.specs.Prelude.{ℕ, ◌==◌, ◌||◌, Bool, true, false, not, L
 use Rattle.std.specs.List.{slice_split}
 
 -- a space or a tab
-abbrev pub is_blank : ℕ → Bool
-is_blank b = b == 32 || b == 9
+abbrev pub is_line_blank : ℕ → Bool
+is_line_blank b = b == 32 || b == 9
 
 abbrev pub is_empty : List ℕ → Bool
 is_empty [] = true
@@ -12,4 +12,4 @@ is_empty (b ∷ bs) = false
 
 -- the words: the parts of the line between its blanks, without the empty ones
 abbrev pub words_of : List ℕ → List (List ℕ)
-words_of line = filter (λ part. not (is_empty part)) (slice_split is_blank line)
+words_of line = filter (λ part. not (is_empty part)) (slice_split is_line_blank line)

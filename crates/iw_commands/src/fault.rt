@@ -4,7 +4,8 @@ ghost use Rattle.std.specs.Prelude.{◌≡◌, ◌++◌, IfOk, OnOk};
 ghost use Rattle.iw_commands.specs.Printed.{Keeps, fault_name, line_fault_text};
 
 use crate::pieces_printer::{put_labelled, put_text};
-use reg_base::{Bytes, OutOfMemory};
+use reg_base::Bytes;
+use reg_lists::OutOfMemory;
 use std::alloc::Global;
 
 /// Why a line is neither a request nor to be passed over.

@@ -1,7 +1,7 @@
 //! Reads the forms of lines.
 
 ghost use Rattle.std.specs.Prelude.{◌≡◌, MatchOption};
-ghost use Rattle.iw_commands.specs.Reading.{ap_start, at_moment, iw, iw_dev, iw_phy, period_at, profile_at, radio_add, reg_set, request_of, ssid_at};
+ghost use Rattle.iw_commands.specs.inner.Reading.{ap_start, at_moment, iw, iw_dev, iw_phy, period_at, profile_at, radio_add, reg_set, request_of, ssid_at};
 
 use crate::pieces::{next_bands, next_channel, next_code, next_name, next_radio};
 use crate::words::{Words, is_word};
@@ -11,7 +11,7 @@ use radio_drv::Name;
 use reg_journal::Request;
 
 /// The request of a line that begins with this word.
-#[tactic(auto, unfolding(crate::specs::Reading::request_of))]
+#[tactic(auto, unfolding(crate::specs::inner::Reading::request_of))]
 pub fn request_of(first: &[u8], words: &mut Words<'_>) -> Option<Request>
     ensures { result ≡ request_of first.now words.old }
 {
@@ -27,7 +27,7 @@ pub fn request_of(first: &[u8], words: &mut Words<'_>) -> Option<Request>
 }
 
 /// Behind `at`: the moment, in ms.
-#[tactic(auto, unfolding(crate::specs::Reading::at_moment))]
+#[tactic(auto, unfolding(crate::specs::inner::Reading::at_moment))]
 fn at_moment(words: &mut Words<'_>) -> Option<Request>
     ensures { result ≡ at_moment words.old }
 {
@@ -37,7 +37,7 @@ fn at_moment(words: &mut Words<'_>) -> Option<Request>
 }
 
 /// Behind `radio`: `add`, the radio and its profile.
-#[tactic(auto, unfolding(crate::specs::Reading::radio_add))]
+#[tactic(auto, unfolding(crate::specs::inner::Reading::radio_add))]
 fn radio_add(words: &mut Words<'_>) -> Option<Request>
     ensures { result ≡ radio_add words.old }
 {
@@ -49,7 +49,7 @@ fn radio_add(words: &mut Words<'_>) -> Option<Request>
 }
 
 /// Takes the words of a profile: bands, widths in MHz, power in mBm and contexts.
-#[tactic(auto, using(crate::proofs::Decided::steps), unfolding(crate::specs::Reading::profile_at, crate::specs::Reading::profile_of))]
+#[tactic(auto, using(crate::proofs::Decided::steps), unfolding(crate::specs::inner::Reading::profile_at, crate::specs::inner::Reading::profile_of_words))]
 fn next_profile(words: &mut Words<'_>) -> Option<Profile>
     ensures { MatchOption result (profile_at words.old ≡ None) (λ profile. profile_at words.old ≡ Some (profile, words.new)) }
 {
@@ -66,7 +66,7 @@ fn next_profile(words: &mut Words<'_>) -> Option<Profile>
 }
 
 /// Behind `iw`.
-#[tactic(auto, unfolding(crate::specs::Reading::iw, crate::specs::Reading::iw_of))]
+#[tactic(auto, unfolding(crate::specs::inner::Reading::iw, crate::specs::inner::Reading::iw_of))]
 fn iw(words: &mut Words<'_>) -> Option<Request>
     ensures { result ≡ iw words.old }
 {
@@ -83,7 +83,7 @@ fn iw(words: &mut Words<'_>) -> Option<Request>
 }
 
 /// Behind `iw reg`: `set` and the code.
-#[tactic(auto, unfolding(crate::specs::Reading::reg_set))]
+#[tactic(auto, unfolding(crate::specs::inner::Reading::reg_set))]
 fn reg_set(words: &mut Words<'_>) -> Option<Request>
     ensures { result ≡ reg_set words.old }
 {
@@ -94,7 +94,7 @@ fn reg_set(words: &mut Words<'_>) -> Option<Request>
 }
 
 /// Behind `iw phy`: the radio, and the interface that comes on it.
-#[tactic(auto, unfolding(crate::specs::Reading::iw_phy))]
+#[tactic(auto, unfolding(crate::specs::inner::Reading::iw_phy))]
 fn iw_phy(words: &mut Words<'_>) -> Option<Request>
     ensures { result ≡ iw_phy words.old }
 {
@@ -113,7 +113,7 @@ fn iw_phy(words: &mut Words<'_>) -> Option<Request>
 }
 
 /// Behind `iw dev`: the interface, and what it does.
-#[tactic(auto, unfolding(crate::specs::Reading::iw_dev, crate::specs::Reading::ap_of, crate::specs::Reading::ap_stop))]
+#[tactic(auto, unfolding(crate::specs::inner::Reading::iw_dev, crate::specs::inner::Reading::ap_of, crate::specs::inner::Reading::ap_stop))]
 fn iw_dev(words: &mut Words<'_>) -> Option<Request>
     ensures { result ≡ iw_dev words.old }
 {
@@ -134,7 +134,7 @@ fn iw_dev(words: &mut Words<'_>) -> Option<Request>
 }
 
 /// Behind `ap start`: the name of the network, the channel, the beacon interval and the DTIM period.
-#[tactic(auto, unfolding(crate::specs::Reading::ap_start))]
+#[tactic(auto, unfolding(crate::specs::inner::Reading::ap_start))]
 fn ap_start(name: Name, words: &mut Words<'_>) -> Option<Request>
     ensures { result ≡ ap_start name words.old }
 {
@@ -151,7 +151,7 @@ fn ap_start(name: Name, words: &mut Words<'_>) -> Option<Request>
 }
 
 /// Takes the next word, where it has 1 to 32 bytes.
-#[tactic(auto, unfolding(crate::specs::Reading::ssid_at))]
+#[tactic(auto, unfolding(crate::specs::inner::Reading::ssid_at))]
 fn next_ssid(words: &mut Words<'_>) -> Option<()>
     ensures { MatchOption result (ssid_at words.old ≡ None) (λ _. ssid_at words.old ≡ Some words.new) }
 {
@@ -164,7 +164,7 @@ fn next_ssid(words: &mut Words<'_>) -> Option<()>
 }
 
 /// Takes the next word, where it is a number from 1 to 65,535.
-#[tactic(auto, unfolding(crate::specs::Reading::period_at))]
+#[tactic(auto, unfolding(crate::specs::inner::Reading::period_at))]
 fn next_period(words: &mut Words<'_>) -> Option<()>
     ensures { MatchOption result (period_at words.old ≡ None) (λ _. period_at words.old ≡ Some words.new) }
 {

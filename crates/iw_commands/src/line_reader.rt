@@ -3,8 +3,8 @@
 ghost use Rattle.std.specs.Prelude.{◌≡◌, ◌↔◌, IfOk, IfSome, IsTrue};
 ghost use Rattle.reg_journal.specs.Replies.{IsAskable};
 ghost use Rattle.reg_journal.specs.declared.request.Request.{Request};
-ghost use Rattle.iw_commands.specs.Lines.{Asks, AsksNothing, IsLineByte, IsPermitted, Says, SaysInWords};
-ghost use Rattle.iw_commands.specs.Reading.{begins_comment};
+ghost use Rattle.iw_commands.specs.Lines.{Asks, AsksNothing, IsLineByte, IsScriptLine, Says, SaysInWords};
+ghost use Rattle.iw_commands.specs.inner.Reading.{begins_comment};
 
 use crate::fault::LineFault;
 use crate::forms::request_of;
@@ -31,7 +31,7 @@ pub fn read_line(line: &[u8]) -> Result<Option<Request>, LineFault>
 
 /// Whether the line has at most 4,096 bytes, and each of them may stand in a line.
 fn is_permitted(line: &[u8]) -> bool
-    ensures { IsTrue result ↔ IsPermitted line.now }
+    ensures { IsTrue result ↔ IsScriptLine line.now }
 {
     line.len() <= MOST_BYTES && line.iter().all(|byte| is_line_byte(*byte))
 }

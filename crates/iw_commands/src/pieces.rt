@@ -1,7 +1,7 @@
 //! Reads words that stand for something.
 
 ghost use Rattle.std.specs.Prelude.{◌≡◌, MatchOption};
-ghost use Rattle.iw_commands.specs.Reading.{bands_at, bands_of, channel_at, channel_named, code_at, code_of, name_at, name_of, radio_at, radio_of};
+ghost use Rattle.iw_commands.specs.inner.Reading.{bands_at, bands_of, channel_from, channel_named, code_from_word, code_of_word, name_at, name_of_word, radio_at, radio_of_word};
 
 use crate::words::{Words, is_word, number_of};
 use chan_def::{ChanDef, Width};
@@ -11,9 +11,9 @@ use reg_hints::RadioNo;
 use rule_tables::Alpha2;
 
 /// The radio that the word names, `phy0` to `phy7`.
-#[tactic(auto, unfolding(crate::specs::Reading::radio_of))]
+#[tactic(auto, unfolding(crate::specs::inner::Reading::radio_of_word))]
 fn radio_of(word: &[u8]) -> Option<RadioNo>
-    ensures { result ≡ radio_of word.now }
+    ensures { result ≡ radio_of_word word.now }
 {
     let digits = word.strip_prefix(b"phy")?;
     let number = number_of(digits)?;
@@ -22,7 +22,7 @@ fn radio_of(word: &[u8]) -> Option<RadioNo>
 }
 
 /// The bands whose numbers the word lists, ascending and parted by commas.
-#[tactic(auto, unfolding(crate::specs::Reading::bands_of))]
+#[tactic(auto, unfolding(crate::specs::inner::Reading::bands_of))]
 fn bands_of(word: &[u8]) -> Option<Bands>
     ensures { result ≡ bands_of word.now }
 {
@@ -47,9 +47,9 @@ fn bands_of(word: &[u8]) -> Option<Bands>
 }
 
 /// The code that the word is: two capital letters, or `00`.
-#[tactic(auto, using(crate::proofs::Decided::steps), unfolding(crate::specs::Reading::code_of))]
+#[tactic(auto, using(crate::proofs::Decided::steps), unfolding(crate::specs::inner::Reading::code_of_word))]
 fn code_of(word: &[u8]) -> Option<Alpha2>
-    ensures { result ≡ code_of word.now }
+    ensures { result ≡ code_of_word word.now }
 {
     let [a, b] = word else { return None };
     let code = Alpha2 { a: *a, b: *b };
@@ -57,9 +57,9 @@ fn code_of(word: &[u8]) -> Option<Alpha2>
 }
 
 /// The name of an interface that the word is.
-#[tactic(auto, using(crate::proofs::Decided::steps), unfolding(crate::specs::Reading::name_of))]
+#[tactic(auto, using(crate::proofs::Decided::steps), unfolding(crate::specs::inner::Reading::name_of_word))]
 fn name_of(word: &[u8]) -> Option<Name>
-    ensures { result ≡ name_of word.now }
+    ensures { result ≡ name_of_word word.now }
 {
     let name = Name::new(word)?;
     // Its clause says that these are the bytes of a name.
@@ -68,7 +68,7 @@ fn name_of(word: &[u8]) -> Option<Name>
 }
 
 /// The channel that a frequency from 1 to 100,000 MHz names by itself.
-#[tactic(auto, unfolding(crate::specs::Reading::channel_named))]
+#[tactic(auto, unfolding(crate::specs::inner::Reading::channel_named))]
 fn channel_named(mhz: u64) -> Option<ChanDef>
     ensures { result ≡ channel_named mhz }
 {
@@ -84,7 +84,7 @@ fn channel_named(mhz: u64) -> Option<ChanDef>
 }
 
 /// Takes the next word, where it names a radio.
-#[tactic(auto, unfolding(crate::specs::Reading::radio_at))]
+#[tactic(auto, unfolding(crate::specs::inner::Reading::radio_at))]
 pub fn next_radio(words: &mut Words<'_>) -> Option<RadioNo>
     ensures { MatchOption result (radio_at words.old ≡ None) (λ radio. radio_at words.old ≡ Some (radio, words.new)) }
 {
@@ -93,7 +93,7 @@ pub fn next_radio(words: &mut Words<'_>) -> Option<RadioNo>
 }
 
 /// Takes the next word, where it lists bands.
-#[tactic(auto, unfolding(crate::specs::Reading::bands_at))]
+#[tactic(auto, unfolding(crate::specs::inner::Reading::bands_at))]
 pub fn next_bands(words: &mut Words<'_>) -> Option<Bands>
     ensures { MatchOption result (bands_at words.old ≡ None) (λ bands. bands_at words.old ≡ Some (bands, words.new)) }
 {
@@ -102,16 +102,16 @@ pub fn next_bands(words: &mut Words<'_>) -> Option<Bands>
 }
 
 /// Takes the next word, where it is a code.
-#[tactic(auto, unfolding(crate::specs::Reading::code_at))]
+#[tactic(auto, unfolding(crate::specs::inner::Reading::code_from_word))]
 pub fn next_code(words: &mut Words<'_>) -> Option<Alpha2>
-    ensures { MatchOption result (code_at words.old ≡ None) (λ code. code_at words.old ≡ Some (code, words.new)) }
+    ensures { MatchOption result (code_from_word words.old ≡ None) (λ code. code_from_word words.old ≡ Some (code, words.new)) }
 {
     let word = words.next_word()?;
     code_of(word)
 }
 
 /// Takes the next word, where it is the name of an interface.
-#[tactic(auto, unfolding(crate::specs::Reading::name_at))]
+#[tactic(auto, unfolding(crate::specs::inner::Reading::name_at))]
 pub fn next_name(words: &mut Words<'_>) -> Option<Name>
     ensures { MatchOption result (name_at words.old ≡ None) (λ name. name_at words.old ≡ Some (name, words.new)) }
 {
@@ -120,9 +120,9 @@ pub fn next_name(words: &mut Words<'_>) -> Option<Name>
 }
 
 /// Takes the next word, where it is a frequency in MHz, as the channel that it names by itself.
-#[tactic(auto, unfolding(crate::specs::Reading::channel_at))]
+#[tactic(auto, unfolding(crate::specs::inner::Reading::channel_from))]
 pub fn next_channel(words: &mut Words<'_>) -> Option<ChanDef>
-    ensures { MatchOption result (channel_at words.old ≡ None) (λ c. channel_at words.old ≡ Some (c, words.new)) }
+    ensures { MatchOption result (channel_from words.old ≡ None) (λ c. channel_from words.old ≡ Some (c, words.new)) }
 {
     let mhz = words.number()?;
     channel_named(mhz)

@@ -1,12 +1,13 @@
 //! Prints the parts of a line.
 
 ghost use Rattle.std.specs.Prelude.{◌≡◌, ◌++◌, decimal, OnOk};
-ghost use Rattle.iw_commands.specs.Printed.{Keeps, mhz_text};
+ghost use Rattle.iw_commands.specs.Printed.{Keeps, whole_mhz_text};
 ghost use Rattle.iw_commands.specs.Spelling.{code_text, radio_text};
 
 use itoa::Buffer;
-use reg_base::{Bytes, OutOfMemory};
+use reg_base::Bytes;
 use reg_hints::RadioNo;
+use reg_lists::OutOfMemory;
 use rule_tables::Alpha2;
 
 /// Appends a text.
@@ -44,7 +45,7 @@ pub fn put_number(out: &mut Bytes, label: &[u8], number: u64) -> Result<(), OutO
 /// Appends a label and a frequency in whole MHz, rounded down.
 #[tactic(auto, using(crate::proofs::Kept::steps))]
 pub fn put_mhz(out: &mut Bytes, label: &[u8], khz: u32) -> Result<(), OutOfMemory>
-    ensures text { OnOk result (out.new ≡ out.old ++ (label.now ++ mhz_text khz)) }
+    ensures text { OnOk result (out.new ≡ out.old ++ (label.now ++ whole_mhz_text khz)) }
     ensures kept { Keeps out.old out.new }
 {
     put_number(out, label, u64::from(khz / 1_000))?;

@@ -4,8 +4,9 @@ ghost use Rattle.std.specs.Prelude.{◌≡◌, ◌++◌, OnOk};
 ghost use Rattle.iw_commands.specs.Printed.{Keeps, refusal_text};
 
 use crate::pieces_printer::{put_code, put_labelled, put_mhz, put_number, put_radio, put_text};
-use reg_base::{Bytes, OutOfMemory};
+use reg_base::Bytes;
 use reg_journal::Refusal;
+use reg_lists::OutOfMemory;
 
 /// Appends the text of a refusal.
 #[tactic(auto, using(crate::proofs::Kept::steps))]

@@ -1,13 +1,15 @@
 //! Prints replies.
 
 ghost use Rattle.std.specs.Prelude.{◌≡◌, ◌++◌, IfOk, OnOk};
-ghost use Rattle.iw_commands.specs.Printed.{Keeps, AppendsTextOf, IsPlain, IsTextOf, answer_text, effect_lines, effect_text, hint_text, line_of};
+ghost use Rattle.reg_base.specs.Texts.{line_of};
+ghost use Rattle.iw_commands.specs.Printed.{Keeps, AppendsTextOf, IsPlain, IsTextOf, answer_text, effect_lines, effect_text, hint_text};
 
 use crate::pieces_printer::{put_labelled, put_number, put_text};
 use crate::refusal_printer::put_refusal;
-use reg_base::{Bytes, OutOfMemory};
+use reg_base::Bytes;
 use reg_hints::Treatment;
 use reg_journal::{Answer, Effect, HintAnswer, Reply};
+use reg_lists::OutOfMemory;
 use std::alloc::Global;
 
 /// The text of the reply: a line, and then one for each effect, each with its newline.

@@ -1,7 +1,7 @@
 //! The lines of a script.
 
 ghost use Rattle.std.specs.Prelude.{◌≡◌, [], ◌∷◌, length, MatchOption};
-ghost use Rattle.iw_commands.specs.Scripts.{lines_of};
+ghost use Rattle.iw_commands.specs.Scripts.{script_lines};
 
 use memchr::memchr;
 use std::marker::Model;
@@ -9,7 +9,7 @@ use std::marker::Model;
 /// The first line, and what is behind its newline.
 #[tactic(auto, using(crate::proofs::Cuts::line_steps))]
 fn cut_line(script: &[u8]) -> Option<(&[u8], &[u8])>
-    ensures { MatchOption result (lines_of script.now ≡ []) (λ x. lines_of script.now ≡ x.0.now ∷ lines_of x.1.now) }
+    ensures { MatchOption result (script_lines script.now ≡ []) (λ x. script_lines script.now ≡ x.0.now ∷ script_lines x.1.now) }
 {
     if script.is_empty() {
         return None;
@@ -28,17 +28,17 @@ pub struct Lines<'a> {
 
 impl<'a> Model for Lines<'a> {
     ghost use Rattle.std.specs.Prelude.{ℕ, List};
-    ghost use Rattle.iw_commands.specs.Scripts.{lines_of};
+    ghost use Rattle.iw_commands.specs.Scripts.{script_lines};
 
     ghost Value = { List (List ℕ) };
 
-    ghost view = { λ l. lines_of l.rest.now };
+    ghost view = { λ l. script_lines l.rest.now };
 }
 
 impl<'a> Lines<'a> {
     /// All lines of the script: its parts round newline bytes, without an empty one at the end.
     pub fn new(script: &'a [u8]) -> Lines<'a>
-        ensures lines { result ≡ lines_of script.now }
+        ensures lines { result ≡ script_lines script.now }
     {
         Lines { rest: script }
     }

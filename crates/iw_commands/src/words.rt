@@ -1,8 +1,9 @@
 //! Reads the words of a line from left to right.
 
 ghost use Rattle.std.specs.Prelude.{◌≡◌, MatchOption};
-ghost use Rattle.iw_commands.specs.Words.{is_blank, words_of};
-ghost use Rattle.iw_commands.specs.Reading.{AreFirst, after, begins_number, labelled_at, next_word, number_at, number_of, same_bytes, small_number_at, whole};
+ghost use Rattle.iw_commands.specs.Words.{is_line_blank, words_of};
+ghost use Rattle.reg_base.specs.Texts.{same_bytes};
+ghost use Rattle.iw_commands.specs.inner.Reading.{AreFirst, after_this_word, begins_number, labelled_at, next_word, number_from_word, number_of_word, small_number_at, whole};
 
 use std::marker::Model;
 use std::str;
@@ -24,7 +25,7 @@ impl<'a> Model for Words<'a> {
 
 /// Whether the byte is a space or a tab.
 fn is_blank(byte: u8) -> bool
-    ensures { result ≡ is_blank byte }
+    ensures { result ≡ is_line_blank byte }
 {
     byte == b' ' || byte == b'\t'
 }
@@ -74,7 +75,7 @@ fn begins_number(word: &[u8]) -> bool
 
 /// The number that the word spells in decimal, without sign or leading zeros.
 pub fn number_of(word: &[u8]) -> Option<u64>
-    ensures { result ≡ number_of word.now }
+    ensures { result ≡ number_of_word word.now }
 {
     if !begins_number(word) {
         return None;
@@ -103,16 +104,16 @@ impl<'a> Words<'a> {
     }
 
     /// Takes the next word, where it is this one.
-    #[tactic(auto, unfolding(crate::specs::Reading::after))]
+    #[tactic(auto, unfolding(crate::specs::inner::Reading::after_this_word))]
     pub fn fixed(&mut self, text: &[u8]) -> Option<()>
-        ensures { MatchOption result (after text.now self.old ≡ None) (λ _. after text.now self.old ≡ Some self.new) }
+        ensures { MatchOption result (after_this_word text.now self.old ≡ None) (λ _. after_this_word text.now self.old ≡ Some self.new) }
     {
         let word = self.next_word()?;
         if is_word(word, text) { Some(()) } else { None }
     }
 
     /// Answers `Some` exactly where no word is left.
-    #[tactic(auto, unfolding(crate::specs::Reading::whole))]
+    #[tactic(auto, unfolding(crate::specs::inner::Reading::whole))]
     pub fn end(&mut self) -> Option<()>
         ensures { MatchOption result (whole self.old ≡ None) (λ _. whole self.old ≡ Some self.old) }
     {
@@ -123,16 +124,16 @@ impl<'a> Words<'a> {
     }
 
     /// Takes the next word, where it is a number.
-    #[tactic(auto, unfolding(crate::specs::Reading::number_at))]
+    #[tactic(auto, unfolding(crate::specs::inner::Reading::number_from_word))]
     pub fn number(&mut self) -> Option<u64>
-        ensures { MatchOption result (number_at self.old ≡ None) (λ n. number_at self.old ≡ Some (n, self.new)) }
+        ensures { MatchOption result (number_from_word self.old ≡ None) (λ n. number_from_word self.old ≡ Some (n, self.new)) }
     {
         let word = self.next_word()?;
         number_of(word)
     }
 
     /// Takes the next word, where it is a number up to 65,535.
-    #[tactic(auto, unfolding(crate::specs::Reading::small_number_at))]
+    #[tactic(auto, unfolding(crate::specs::inner::Reading::small_number_at))]
     pub fn small_number(&mut self) -> Option<u16>
         ensures { MatchOption result (small_number_at self.old ≡ None) (λ n. small_number_at self.old ≡ Some (n, self.new)) }
     {
@@ -141,7 +142,7 @@ impl<'a> Words<'a> {
     }
 
     /// Takes this word and a number up to 65,535 behind it.
-    #[tactic(auto, unfolding(crate::specs::Reading::labelled_at))]
+    #[tactic(auto, unfolding(crate::specs::inner::Reading::labelled_at))]
     pub fn labelled(&mut self, label: &[u8]) -> Option<u16>
         ensures { MatchOption result (labelled_at label.now self.old ≡ None) (λ n. labelled_at label.now self.old ≡ Some (n, self.new)) }
     {

@@ -4,7 +4,7 @@ use Rattle.std.specs.Int.{w16, w32, from_le_bytes}
 use Rattle.std.proofs.lemmas.List.{take_at, drop_at}
 use Rattle.std.proofs.lemmas.Nat.{from_le_bytes-to_le_bytes_2, from_le_bytes-to_le_bytes_4}
 use Rattle.nl_attrs.specs.Endian.{le16, le32}
-use Rattle.nl_attrs.specs.Attributes.{IsAttr, padding, kind_field, attr_bytes}
+use Rattle.nl_attrs.specs.Attributes.{IsAttr, padding_length, kind_field, attr_bytes}
 use Rattle.nl_attrs.specs.declared.attr.Attr.{Attr}
 
 pub same_front : (p q r s : List ℕ) → length p ≡ length q → p ++ r ≡ q ++ s → (p ≡ q) × (r ≡ s)
@@ -35,7 +35,7 @@ kind_field-same j k false true j_fits k_fits e = absurd (omega arith)
 
 -- the padding, and what stands from the payload on and from the kind on
 abbrev zeros_of : Attr → List ℕ
-zeros_of a = replicate (padding (length a.payload)) 0
+zeros_of a = replicate (padding_length (length a.payload)) 0
 
 abbrev from_payload : Attr → List ℕ → List ℕ
 from_payload a r = a.payload ++ (zeros_of a ++ r)
@@ -43,7 +43,7 @@ from_payload a r = a.payload ++ (zeros_of a ++ r)
 abbrev from_kind : Attr → List ℕ → List ℕ
 from_kind a r = le16 (kind_field a.kind a.nested) ++ from_payload a r
 
-pub attr_regrouped : (a : Attr) (r : List ℕ) → attr_bytes a ++ r ≡ le16 (4 + length a.payload) ++ (le16 (kind_field a.kind a.nested) ++ (a.payload ++ (replicate (padding (length a.payload)) 0 ++ r)))
+pub attr_regrouped : (a : Attr) (r : List ℕ) → attr_bytes a ++ r ≡ le16 (4 + length a.payload) ++ (le16 (kind_field a.kind a.nested) ++ (a.payload ++ (replicate (padding_length (length a.payload)) 0 ++ r)))
 unfolding attr_bytes
 attr_regrouped a r = simp append_assoc
 
@@ -60,6 +60,6 @@ attr-apart a b r s fits_a fits_b e =
     let kinds = kind_field-same a.kind b.kind a.nested b.nested fits_a.kind fits_b.kind fields.0 in
     let long : length a.payload ≡ length b.payload = omega (arith, lengths.0) in
     let payloads = same_front a.payload b.payload (zeros_of a ++ r) (zeros_of b ++ s) long fields.1 in
-    let zeros : length (zeros_of a) ≡ length (zeros_of b) = ap (λ (k : ℕ). length {A = ℕ} (replicate (padding k) 0)) long in
+    let zeros : length (zeros_of a) ≡ length (zeros_of b) = ap (λ (k : ℕ). length {A = ℕ} (replicate (padding_length k) 0)) long in
     let rests = same_front (zeros_of a) (zeros_of b) r s zeros payloads.1 in
     (same_attr a b kinds.0 kinds.1 payloads.0, rests.1)

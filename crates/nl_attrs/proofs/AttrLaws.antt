@@ -2,9 +2,9 @@
 use Rattle.std.proofs.Common.{◌≡◌, ℕ, ◌+◌, ◌<◌, Bool, true, false, List, [], ◌++◌, length, take, replicate, All, refl, sym, ap, subst, ◌∙◌, inl, inr, append_assoc, arith, ◌∷◌}
 use Rattle.std.proofs.lemmas.List.{append-nil, length-append, length-replicate, take_at, drop_at}
 use Rattle.std.proofs.lemmas.List.Elements.{recursion_from_All, All-head}
-use Rattle.nl_attrs.specs.Endian.{le16, u16_at}
-use Rattle.nl_attrs.specs.Attributes.{IsAttr, IsBroken, IsFirstBreach, aligned, padding, padding_at, bit14, kind_field, attr_bytes, attrs_bytes}
-use Rattle.nl_attrs.specs.Reading.{BeginsAttr}
+use Rattle.nl_attrs.specs.Endian.{le16, le16_at}
+use Rattle.nl_attrs.specs.Attributes.{IsAttr, IsBroken, IsFirstBreach, aligned, padding_length, padding_at, bit14, kind_field, attr_bytes, attrs_bytes}
+use Rattle.nl_attrs.specs.inner.Reading.{BeginsAttr}
 use Rattle.nl_attrs.specs.declared.attr.Attr.{Attr}
 use Rattle.nl_attrs.proofs.Lengths.{length-le16, length-attr_bytes}
 use Rattle.nl_attrs.proofs.Places.{u16_at-le16}
@@ -16,25 +16,25 @@ bit14-kind_field : (k : ℕ) (nested : Bool) → k < 16384 → bit14 (kind_field
 bit14-kind_field k true lt = omega arith
 bit14-kind_field k false lt = omega arith
 
-length_at-attr : (a : Attr) (r : List ℕ) → IsAttr a → u16_at (attr_bytes a ++ r) 0 ≡ 4 + length a.payload
+length_at-attr : (a : Attr) (r : List ℕ) → IsAttr a → le16_at (attr_bytes a ++ r) 0 ≡ 4 + length a.payload
 length_at-attr a r fits =
     let short = fits.short in
-    ap (λ (b : List ℕ). u16_at b 0) (attr_regrouped a r) ∙ u16_at-le16 [] (4 + length a.payload) _ 0 refl (omega arith)
+    ap (λ (b : List ℕ). le16_at b 0) (attr_regrouped a r) ∙ u16_at-le16 [] (4 + length a.payload) _ 0 refl (omega arith)
 
-kind_at-attr : (a : Attr) (r : List ℕ) → IsAttr a → u16_at (attr_bytes a ++ r) 2 ≡ kind_field a.kind a.nested
+kind_at-attr : (a : Attr) (r : List ℕ) → IsAttr a → le16_at (attr_bytes a ++ r) 2 ≡ kind_field a.kind a.nested
 kind_at-attr a r fits =
-    ap (λ (b : List ℕ). u16_at b 2) (attr_regrouped a r) ∙ u16_at-le16 (le16 (4 + length a.payload)) (kind_field a.kind a.nested) _ 2 (length-le16 (4 + length a.payload)) (kind_field-lt a.kind a.nested fits.kind)
+    ap (λ (b : List ℕ). le16_at b 2) (attr_regrouped a r) ∙ u16_at-le16 (le16 (4 + length a.payload)) (kind_field a.kind a.nested) _ 2 (length-le16 (4 + length a.payload)) (kind_field-lt a.kind a.nested fits.kind)
 
 -- the padding stands behind the header and the payload
-padding-attr : (a : Attr) (r : List ℕ) → padding_at (attr_bytes a ++ r) (4 + length a.payload) ≡ replicate (padding (length a.payload)) 0
+padding-attr : (a : Attr) (r : List ℕ) → padding_at (attr_bytes a ++ r) (4 + length a.payload) ≡ replicate (padding_length (length a.payload)) 0
 unfolding attr_bytes
 padding-attr a r =
     let front : List ℕ = le16 (4 + length a.payload) ++ (le16 (kind_field a.kind a.nested) ++ a.payload) in
-    let zeros : List ℕ = replicate (padding (length a.payload)) 0 in
+    let zeros : List ℕ = replicate (padding_length (length a.payload)) 0 in
     let grouped : attr_bytes a ++ r ≡ front ++ (zeros ++ r) = simp append_assoc in
     let front_len : length front ≡ 4 + length a.payload = simp (length-append, length-le16) (omega arith) in
-    let count : length zeros ≡ padding (4 + length a.payload) = rw length-replicate (omega arith) in
-    ap (λ (b : List ℕ). padding_at b (4 + length a.payload)) grouped ∙ ap (take (padding (4 + length a.payload))) (drop_at front (zeros ++ r) (4 + length a.payload) front_len) ∙ take_at zeros r (padding (4 + length a.payload)) count
+    let count : length zeros ≡ padding_length (4 + length a.payload) = rw length-replicate (omega arith) in
+    ap (λ (b : List ℕ). padding_at b (4 + length a.payload)) grouped ∙ ap (take (padding_length (4 + length a.payload))) (drop_at front (zeros ++ r) (4 + length a.payload) front_len) ∙ take_at zeros r (padding_length (4 + length a.payload)) count
 
 pub begins-attr : (a : Attr) (r : List ℕ) → IsAttr a → BeginsAttr (attr_bytes a ++ r)
 begins-attr a r fits =
@@ -45,7 +45,7 @@ begins-attr a r fits =
       long = rw len (omega arith);
       within = rw (len, bytes) (omega arith);
       bit = rw (kind_at-attr a r fits) (bit14-kind_field a.kind a.nested fits.kind);
-      zero = rw (len, padding-attr a r) (test_of_zeros (padding (length a.payload)));
+      zero = rw (len, padding-attr a r) (test_of_zeros (padding_length (length a.payload)));
     }
 
 pub never_both : (b : List ℕ) → BeginsAttr b → IsBroken b → ⊥

@@ -1,7 +1,7 @@
 -- Where a message stands there is no fault, a fault is one, and it stays.
 use Rattle.std.proofs.Common.{◌≡◌, ℕ, ◌+◌, ◌≤◌, List, ◌++◌, length, Option, Some, None, refl, sym, ap, subst, ◌∙◌, inl, inr, arith}
 use Rattle.std.proofs.lemmas.List.{length-append, take-append-le}
-use Rattle.nl_attrs.specs.Endian.{u16_at}
+use Rattle.nl_attrs.specs.Endian.{le16_at}
 use Rattle.nl_attrs.specs.Messages.{IsMsg, FitsBody, spelled, body_of, type_of}
 use Rattle.nl_attrs.specs.Faults.{length_at, type_at, body_at, IsBadBody, IsFault, IsUndecided, IsFamilyWhole}
 use Rattle.nl_attrs.specs.declared.fault.AttrFault.{AttrFault}
@@ -26,7 +26,7 @@ never_undecided m r is undecided =
     ]
 
 good_body : (m : Msg) (place : ℕ) → FitsBody m → 16 ≤ type_of m → IsBadBody (body_of m) place → ⊥
-unfolding u16_at
+unfolding le16_at
 good_body (Generic family flags seq pid cmd version attrs) place fits family_high bad =
     elim bad [
       | inl reserved ↦ reserved.0 refl

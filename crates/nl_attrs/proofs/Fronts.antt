@@ -1,9 +1,9 @@
 -- The message at the front of bytes, and the bytes of that message alone.
 use Rattle.std.proofs.Common.{◌≡◌, ℕ, ◌≤◌, List, length, take, drop, refl, sym, ap, ◌∙◌, inr, arith}
 use Rattle.std.proofs.lemmas.List.{length-take, take-append-drop}
-use Rattle.nl_attrs.specs.Endian.{u16_at, u32_at}
+use Rattle.nl_attrs.specs.Endian.{le16_at, le32_at}
 use Rattle.nl_attrs.specs.Faults.{IsFamilyWhole, length_at, type_at}
-use Rattle.nl_attrs.specs.Reading.{IsGoodSoFar, IsWhole, IsBodyRefusal, IsRefusal}
+use Rattle.nl_attrs.specs.inner.Reading.{IsGoodSoFar, IsWhole, IsBodyRefusal, IsNextRefusal}
 use Rattle.nl_attrs.specs.declared.fault.AttrFault.TheVariants.{Truncated, BadLength, Overlong, BadType, BadAttr}
 use Rattle.nl_attrs.specs.declared.fault.NextFault.{NextFault}
 use Rattle.nl_attrs.specs.declared.fault.NextFault.TheVariants.{Bad, OutOfMemory}
@@ -27,13 +27,13 @@ length_at-front : (held : List ℕ) (n : ℕ) → IsWhole held n → length_at (
 length_at-front held n whole =
     let long = whole.long in
     let within = whole.within in
-    sym (u32_at-append (take n held) (drop n held) 0 (omega (arith, length-take n held))) ∙ ap (λ (b : List ℕ). u32_at b 0) (take-append-drop n held)
+    sym (u32_at-append (take n held) (drop n held) 0 (omega (arith, length-take n held))) ∙ ap (λ (b : List ℕ). le32_at b 0) (take-append-drop n held)
 
 type_at-front : (held : List ℕ) (n : ℕ) → IsWhole held n → type_at (take n held) ≡ type_at held
 type_at-front held n whole =
     let long = whole.long in
     let within = whole.within in
-    sym (u16_at-append (take n held) (drop n held) 4 (omega (arith, length-take n held))) ∙ ap (λ (b : List ℕ). u16_at b 4) (take-append-drop n held)
+    sym (u16_at-append (take n held) (drop n held) 4 (omega (arith, length-take n held))) ∙ ap (λ (b : List ℕ). le16_at b 4) (take-append-drop n held)
 
 pub whole_front : (held : List ℕ) (n : ℕ) → IsWhole held n → IsWhole (take n held) (length (take n held))
 whole_front held n whole =
@@ -63,7 +63,7 @@ family_whole held n whole family =
       family = rw (sym (type_at-front held n whole)) family;
     }
 
-pub refusal : (held : List ℕ) (n : ℕ) (fault : NextFault) → IsWhole held n → IsBodyRefusal (type_at (take n held)) (drop 16 (take n held)) fault → IsRefusal held fault
+pub refusal : (held : List ℕ) (n : ℕ) (fault : NextFault) → IsWhole held n → IsBodyRefusal (type_at (take n held)) (drop 16 (take n held)) fault → IsNextRefusal held fault
 refusal held n (Bad (Truncated k)) whole is = absurd is
 refusal held n (Bad (BadLength k)) whole is = absurd is
 refusal held n (Bad (Overlong k)) whole is = absurd is

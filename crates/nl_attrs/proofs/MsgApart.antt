@@ -6,7 +6,7 @@ use Rattle.std.proofs.Math.Facts.{Fits-of_z}
 use Rattle.std.proofs.lemmas.Int.{to_z-of_z}
 use Rattle.nl_attrs.specs.Endian.{le16, le32}
 use Rattle.nl_attrs.specs.Attributes.{attrs_bytes}
-use Rattle.nl_attrs.specs.Messages.{IsMsg, FitsBody, head_bytes, spelled, body_of, type_of, flags_of, seq_of, pid_of}
+use Rattle.nl_attrs.specs.Messages.{IsMsg, FitsBody, head_bytes, spelled, body_of, type_of, header_flags, seq_of, pid_of}
 use Rattle.nl_attrs.specs.declared.message.Msg.{Msg}
 use Rattle.nl_attrs.specs.declared.message.Msg.TheVariants.{Generic, Error, Done}
 use Rattle.nl_attrs.proofs.Lengths.{length-spelled}
@@ -57,7 +57,7 @@ type_of-lt (Generic family flags seq pid cmd version attrs) fits = fits.1
 type_of-lt (Error flags seq pid code head) fits = omega arith
 type_of-lt (Done flags seq pid code) fits = omega arith
 
-pub FitsHead-msg : (m : Msg) → IsMsg m → FitsHead (16 + length (body_of m)) (type_of m) (flags_of m) (seq_of m) (pid_of m)
+pub FitsHead-msg : (m : Msg) → IsMsg m → FitsHead (16 + length (body_of m)) (type_of m) (header_flags m) (seq_of m) (pid_of m)
 FitsHead-msg m is =
     let short = is.short in
     record {
@@ -77,7 +77,7 @@ code-apart a b r s fits_a fits_b e =
 generic_cells : (c v c' v' : ℕ) (r s : List ℕ) → ◌≡◌ {A = List ℕ} (c ∷ v ∷ 0 ∷ 0 ∷ r) (c' ∷ v' ∷ 0 ∷ 0 ∷ s) → (c ≡ c') × (v ≡ v') × (r ≡ s)
 generic_cells c v c' v' r s e = (cc, cc, cc)
 
-same_msg : (m n : Msg) → FitsBody m → FitsBody n → type_of m ≡ type_of n → flags_of m ≡ flags_of n → seq_of m ≡ seq_of n → pid_of m ≡ pid_of n → body_of m ≡ body_of n → m ≡ n
+same_msg : (m n : Msg) → FitsBody m → FitsBody n → type_of m ≡ type_of n → header_flags m ≡ header_flags n → seq_of m ≡ seq_of n → pid_of m ≡ pid_of n → body_of m ≡ body_of n → m ≡ n
 same_msg (Generic family flags seq pid cmd version attrs) (Generic family' flags' seq' pid' cmd' version' attrs') fits fits' types flagses seqs pids bodies =
     let cells = generic_cells cmd version cmd' version' (attrs_bytes attrs) (attrs_bytes attrs') bodies in
     let lists = one_list attrs attrs' fits.2 fits'.2 cells.2 in
@@ -103,9 +103,9 @@ same_msg (Done flags seq pid code) (Done flags' seq' pid' code') fits fits' type
     let parts = code-apart code code' [] [] fits fits' (ap (λ (x : List ℕ). x ++ []) bodies) in
     λ i. Done (flagses i) (seqs i) (pids i) (parts.0 i)
 
-pub msg_regrouped : (m : Msg) (r : List ℕ) → spelled m ++ r ≡ head_bytes (16 + length (body_of m)) (type_of m) (flags_of m) (seq_of m) (pid_of m) ++ (body_of m ++ r)
+pub msg_regrouped : (m : Msg) (r : List ℕ) → spelled m ++ r ≡ head_bytes (16 + length (body_of m)) (type_of m) (header_flags m) (seq_of m) (pid_of m) ++ (body_of m ++ r)
 unfolding spelled
-msg_regrouped m r = append_assoc (head_bytes (16 + length (body_of m)) (type_of m) (flags_of m) (seq_of m) (pid_of m)) (body_of m) r
+msg_regrouped m r = append_assoc (head_bytes (16 + length (body_of m)) (type_of m) (header_flags m) (seq_of m) (pid_of m)) (body_of m) r
 
 pub msg-apart : (m n : Msg) (r s : List ℕ) → IsMsg m → IsMsg n → spelled m ++ r ≡ spelled n ++ s → (m ≡ n) × (r ≡ s)
 msg-apart m n r s is_m is_n e =

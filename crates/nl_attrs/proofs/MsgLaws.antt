@@ -3,11 +3,11 @@ use Rattle.std.proofs.Common.{◌≡◌, ℕ, ◌+◌, ◌%◌, ◌≤◌, false
 use Rattle.std.specs.Int.{w32, cast_unsigned}
 use Rattle.std.proofs.lemmas.Bool.{eq-eqb, ne_eqb, le-ltb, and_right}
 use Rattle.std.proofs.lemmas.List.{length-append, take_at, drop_at}
-use Rattle.nl_attrs.specs.Endian.{le32, u16_at, u32_at}
+use Rattle.nl_attrs.specs.Endian.{le32, le16_at, le32_at}
 use Rattle.nl_attrs.specs.Attributes.{attr_bytes, attrs_bytes}
 use Rattle.nl_attrs.specs.Faults.{length_fault, type_fault, length_at, type_at, body_at}
-use Rattle.nl_attrs.specs.Reading.{IsGoodHead}
-use Rattle.nl_attrs.specs.Messages.{IsMsg, FitsBody, head_bytes, spelled, body_of, type_of, flags_of, seq_of, pid_of}
+use Rattle.nl_attrs.specs.inner.Reading.{IsGoodHead}
+use Rattle.nl_attrs.specs.Messages.{IsMsg, FitsBody, head_bytes, spelled, body_of, type_of, header_flags, seq_of, pid_of}
 use Rattle.nl_attrs.specs.declared.attr.Attr.{Attr}
 use Rattle.nl_attrs.specs.declared.message.Msg.{Msg}
 use Rattle.nl_attrs.specs.declared.message.Msg.TheVariants.{Generic, Error, Done}
@@ -63,17 +63,17 @@ no_type_fault (Done flags seq pid code) fits =
 pub length_at-msg : (m : Msg) (r : List ℕ) → IsMsg m → length_at (spelled m ++ r) ≡ length (spelled m)
 length_at-msg m r is =
     let fits = FitsHead-msg m is in
-    ap (λ (b : List ℕ). u32_at b 0) (msg_regrouped m r ∙ head_regrouped _ _ _ _ _ (body_of m ++ r)) ∙ u32_at-le32 (16 + length (body_of m)) _ fits.len_fits ∙ sym (length-spelled m)
+    ap (λ (b : List ℕ). le32_at b 0) (msg_regrouped m r ∙ head_regrouped _ _ _ _ _ (body_of m ++ r)) ∙ u32_at-le32 (16 + length (body_of m)) _ fits.len_fits ∙ sym (length-spelled m)
 
 pub type_at-msg : (m : Msg) (r : List ℕ) → IsMsg m → type_at (spelled m ++ r) ≡ type_of m
 type_at-msg m r is =
     let fits = FitsHead-msg m is in
-    ap (λ (b : List ℕ). u16_at b 4) (msg_regrouped m r ∙ head_regrouped _ _ _ _ _ (body_of m ++ r)) ∙ u16_at-le16 (le32 (16 + length (body_of m))) (type_of m) _ 4 (length-le32 (16 + length (body_of m))) fits.kind_fits
+    ap (λ (b : List ℕ). le16_at b 4) (msg_regrouped m r ∙ head_regrouped _ _ _ _ _ (body_of m ++ r)) ∙ u16_at-le16 (le32 (16 + length (body_of m))) (type_of m) _ 4 (length-le32 (16 + length (body_of m))) fits.kind_fits
 
 pub body_at-msg : (m : Msg) (r : List ℕ) → IsMsg m → body_at (spelled m ++ r) ≡ body_of m
 unfolding spelled
 body_at-msg m r is =
-    rw (length_at-msg m r is, take_at (spelled m) r (length (spelled m)) refl, drop_at (head_bytes (16 + length (body_of m)) (type_of m) (flags_of m) (seq_of m) (pid_of m)) (body_of m) 16 (length-head_bytes _ _ _ _ _)) refl
+    rw (length_at-msg m r is, take_at (spelled m) r (length (spelled m)) refl, drop_at (head_bytes (16 + length (body_of m)) (type_of m) (header_flags m) (seq_of m) (pid_of m)) (body_of m) 16 (length-head_bytes _ _ _ _ _)) refl
 
 pub good-msg : (m : Msg) (r : List ℕ) → IsMsg m → IsGoodHead (length_at (spelled m ++ r)) (type_at (spelled m ++ r))
 good-msg m r is =

@@ -4,7 +4,7 @@ use Rattle.std.specs.Int.{w16, w32, to_le_bytes, from_le_bytes}
 use Rattle.std.proofs.lemmas.Bool.{cases_lt}
 use Rattle.std.proofs.lemmas.List.{length-take, length-drop, get_or-take, get_or-drop, get_or_past, take-append-drop, drop-drop, drop_at, drop-append-le, take-append-le}
 use Rattle.std.proofs.lemmas.Nat.{le_bytes_2, le_bytes_4, from_le_bytes-to_le_bytes_2, from_le_bytes-to_le_bytes_4}
-use Rattle.nl_attrs.specs.Endian.{le16, le32, u16_at, u32_at}
+use Rattle.nl_attrs.specs.Endian.{le16, le32, le16_at, le32_at}
 
 abbrev pub IsBytes : List ℕ → Type 0
 IsBytes bytes = (i : ℕ) → get_or bytes i 0 < 256
@@ -24,44 +24,44 @@ IsBytes-part k i bytes h = IsBytes-take k (drop i bytes) (IsBytes-drop i bytes h
 
 -- ---- what was read is written again
 
-pub le16-u16_at : (b : List ℕ) (i : ℕ) → IsBytes b → i + 2 ≤ length b → le16 (u16_at b i) ≡ take 2 (drop i b)
-unfolding le16 u16_at
+pub le16-u16_at : (b : List ℕ) (i : ℕ) → IsBytes b → i + 2 ≤ length b → le16 (le16_at b i) ≡ take 2 (drop i b)
+unfolding le16 le16_at
 le16-u16_at b i fits long =
     le_bytes_2 (take 2 (drop i b)) (from_le_bytes w16 (take 2 (drop i b))) (omega (arith, length-take 2 (drop i b), length-drop i b)) (IsBytes-part 2 i b fits) refl
 
-pub le32-u32_at : (b : List ℕ) (i : ℕ) → IsBytes b → i + 4 ≤ length b → le32 (u32_at b i) ≡ take 4 (drop i b)
-unfolding le32 u32_at
+pub le32-u32_at : (b : List ℕ) (i : ℕ) → IsBytes b → i + 4 ≤ length b → le32 (le32_at b i) ≡ take 4 (drop i b)
+unfolding le32 le32_at
 le32-u32_at b i fits long =
     le_bytes_4 (take 4 (drop i b)) (from_le_bytes w32 (take 4 (drop i b))) (omega (arith, length-take 4 (drop i b), length-drop i b)) (IsBytes-part 4 i b fits) refl
 
-pub u32_at-lt : (b : List ℕ) (i : ℕ) → IsBytes b → u32_at b i < 2 ^ 32
-unfolding u32_at
+pub u32_at-lt : (b : List ℕ) (i : ℕ) → IsBytes b → le32_at b i < 2 ^ 32
+unfolding le32_at
 u32_at-lt b i fits =
     let part = IsBytes-part 4 i b fits in
     omega (arith, part 0, part 1, part 2, part 3)
 
 -- ---- what was written is read again
 
-pub u16_at-le16 : (p : List ℕ) (n : ℕ) (r : List ℕ) (i : ℕ) → length p ≡ i → n < 2 ^ 16 → u16_at (p ++ (le16 n ++ r)) i ≡ n
-unfolding le16 u16_at
+pub u16_at-le16 : (p : List ℕ) (n : ℕ) (r : List ℕ) (i : ℕ) → length p ≡ i → n < 2 ^ 16 → le16_at (p ++ (le16 n ++ r)) i ≡ n
+unfolding le16 le16_at
 u16_at-le16 p n r i len lt =
     rw (drop_at p (to_le_bytes w16 n ++ r) i len) (from_le_bytes-to_le_bytes_2 n lt)
 
-pub u32_at-le32 : (n : ℕ) (r : List ℕ) → n < 2 ^ 32 → u32_at (le32 n ++ r) 0 ≡ n
-unfolding le32 u32_at
+pub u32_at-le32 : (n : ℕ) (r : List ℕ) → n < 2 ^ 32 → le32_at (le32 n ++ r) 0 ≡ n
+unfolding le32 le32_at
 u32_at-le32 n r lt = from_le_bytes-to_le_bytes_4 n lt
 
 -- ---- more bytes behind, and fewer
 
-pub u16_at-append : (b r : List ℕ) (i : ℕ) → i + 2 ≤ length b → u16_at (b ++ r) i ≡ u16_at b i
-unfolding u16_at
+pub u16_at-append : (b r : List ℕ) (i : ℕ) → i + 2 ≤ length b → le16_at (b ++ r) i ≡ le16_at b i
+unfolding le16_at
 u16_at-append b r i long =
     let front : i ≤ length b = omega arith in
     let whole : 2 ≤ length (drop i b) = omega (arith, length-drop i b) in
     rw (drop-append-le i b r front, take-append-le 2 (drop i b) r whole) refl
 
-pub u32_at-append : (b r : List ℕ) (i : ℕ) → i + 4 ≤ length b → u32_at (b ++ r) i ≡ u32_at b i
-unfolding u32_at
+pub u32_at-append : (b r : List ℕ) (i : ℕ) → i + 4 ≤ length b → le32_at (b ++ r) i ≡ le32_at b i
+unfolding le32_at
 u32_at-append b r i long =
     let front : i ≤ length b = omega arith in
     let whole : 4 ≤ length (drop i b) = omega (arith, length-drop i b) in

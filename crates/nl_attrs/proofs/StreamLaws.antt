@@ -5,8 +5,8 @@ use Rattle.std.proofs.lemmas.List.{append-nil, length-append, flat_map_more, tak
 use Rattle.std.proofs.lemmas.List.Elements.{recursion_from_All, All-push}
 use Rattle.nl_attrs.specs.Messages.{IsMsg, spelled, all_spelled}
 use Rattle.nl_attrs.specs.Faults.{IsFault, IsUndecided}
-use Rattle.nl_attrs.specs.Reading.{TakesMessage}
-use Rattle.nl_attrs.specs.Streams.{AreMessages, Decoding, HasGiven, Takes}
+use Rattle.nl_attrs.specs.inner.Reading.{TakesMessage}
+use Rattle.nl_attrs.specs.Streams.{AreMessages, Decoding, HasGiven, TakesMsg}
 use Rattle.nl_attrs.specs.declared.fault.AttrFault.{AttrFault}
 use Rattle.nl_attrs.specs.declared.message.Msg.{Msg}
 use Rattle.nl_attrs.proofs.OneReading.{Stops, one_reading, longest}
@@ -85,7 +85,7 @@ fault_step d fault fed given met before =
       last = fault_stays d.held before.lost fault faulty;
     }
 
-pub give_step : (d d' : Decoding) (m : Msg) (fed : List ℕ) (given : List Msg) → Takes d d' m → HasGiven d fed given → HasGiven d' fed (given ++ m ∷ [])
+pub give_step : (d d' : Decoding) (m : Msg) (fed : List ℕ) (given : List Msg) → TakesMsg d d' m → HasGiven d fed given → HasGiven d' fed (given ++ m ∷ [])
 give_step d d' m fed given takes before =
     let none : before.lost ≡ [] = let P : Option AttrFault → Type 0 = λ o. MatchOption o (before.lost ≡ []) (IsFault d.held) in subst P takes.before before.state in
     let spelt : all_spelled given ++ spelled m ≡ all_spelled (given ++ m ∷ []) = flat_map_more spelled [] given m in
@@ -100,7 +100,7 @@ give_step d d' m fed given takes before =
     }
 
 -- the message that was found in what is held
-pub takes_found : (b bytes : List ℕ) (start taken n : ℕ) (fault : Option AttrFault) (m : Msg) → b ≡ bytes → fault ≡ None → TakesMessage (take (length b - start) (drop start b)) m n → Takes (record { held = drop start bytes; taken = taken; fault = fault }) (record { held = drop (start + n) bytes; taken = taken + n; fault = fault }) m
+pub takes_found : (b bytes : List ℕ) (start taken n : ℕ) (fault : Option AttrFault) (m : Msg) → b ≡ bytes → fault ≡ None → TakesMessage (take (length b - start) (drop start b)) m n → TakesMsg (record { held = drop start bytes; taken = taken; fault = fault }) (record { held = drop (start + n) bytes; taken = taken + n; fault = fault }) m
 takes_found b bytes start taken n fault m same free found =
     let front : drop start bytes ≡ spelled m ++ drop n (drop start bytes) = rw (same, take_rest bytes start) at found.front in
     record {

@@ -2,9 +2,9 @@
 use Rattle.std.proofs.Common.{◌≡◌, ℕ, zero, suc, ◌+◌, ◌-◌, ◌%◌, ◌^◌, ◌<◌, ◌≤◌, Bool, true, false, eqb, leb, List, [], ◌∷◌, ◌++◌, length, take, drop, replicate, refl, sym, ap, ◌∙◌, append_assoc, arith}
 use Rattle.std.proofs.lemmas.Bool.{eqb-true, and_parts, leb-true, leb-false}
 use Rattle.std.proofs.lemmas.List.{length-take, length-drop, flat_map_more, append-nil, nil_from_length}
-use Rattle.nl_attrs.specs.Endian.{le16, u16_at}
-use Rattle.nl_attrs.specs.Attributes.{aligned, padding, padding_at, is_zero, bit14, kind_field, attr_bytes, attrs_bytes}
-use Rattle.nl_attrs.specs.Reading.{BeginsAttr}
+use Rattle.nl_attrs.specs.Endian.{le16, le16_at}
+use Rattle.nl_attrs.specs.Attributes.{aligned, padding_length, padding_at, is_zero, bit14, kind_field, attr_bytes, attrs_bytes}
+use Rattle.nl_attrs.specs.inner.Reading.{BeginsAttr}
 use Rattle.nl_attrs.specs.declared.attr.Attr.{Attr}
 use Rattle.nl_attrs.proofs.Places.{IsBytes, IsBytes-part, le16-u16_at, cut}
 
@@ -24,23 +24,23 @@ test_of_zeros (suc n) = test_of_zeros n
 four_parts : (b p q r s b1 b2 b3 b4 : List ℕ) → b ≡ p ++ b1 → b1 ≡ q ++ b2 → b2 ≡ r ++ b3 → b3 ≡ s ++ b4 → b ≡ (p ++ (q ++ (r ++ s))) ++ b4
 four_parts b p q r s b1 b2 b3 b4 e1 e2 e3 e4 = rw (e1, e2, e3, e4) (simp append_assoc)
 
-pub attr_taken : (b : List ℕ) (a : Attr) (n : ℕ) → IsBytes b → BeginsAttr b → n ≡ u16_at b 0 → kind_field a.kind a.nested ≡ u16_at b 2 → a.payload ≡ take (n - 4) (drop 4 b) → b ≡ attr_bytes a ++ drop (aligned n) b
+pub attr_taken : (b : List ℕ) (a : Attr) (n : ℕ) → IsBytes b → BeginsAttr b → n ≡ le16_at b 0 → kind_field a.kind a.nested ≡ le16_at b 2 → a.payload ≡ take (n - 4) (drop 4 b) → b ≡ attr_bytes a ++ drop (aligned n) b
 unfolding attr_bytes
 attr_taken b a n fits begins n-is kind-is payload-is =
     let header = begins.header in
     let long : 4 ≤ n = rw n-is begins.long in
     let within : aligned n ≤ length b = rw n-is begins.within in
     let len : length a.payload ≡ n - 4 = rw payload-is (omega (arith, length-take (n - 4) (drop 4 b), length-drop 4 b)) in
-    let total : 4 + length a.payload ≡ u16_at b 0 = omega arith in
+    let total : 4 + length a.payload ≡ le16_at b 0 = omega arith in
     let first : b ≡ le16 (4 + length a.payload) ++ drop 2 b = cut 2 0 b ∙ ap (λ (x : List ℕ). x ++ drop 2 b) (sym (ap le16 total ∙ le16-u16_at b 0 fits (omega arith))) in
     let second : drop 2 b ≡ le16 (kind_field a.kind a.nested) ++ drop 4 b = cut 2 2 b ∙ ap (λ (x : List ℕ). x ++ drop 4 b) (sym (ap le16 kind-is ∙ le16-u16_at b 2 fits (omega arith))) in
     let at_end : 4 + (n - 4) ≡ n = omega arith in
     let third : drop 4 b ≡ a.payload ++ drop n b = cut (n - 4) 4 b ∙ ap (λ (k : ℕ). take (n - 4) (drop 4 b) ++ drop k b) at_end ∙ ap (λ (x : List ℕ). x ++ drop n b) (sym payload-is) in
     let zero : is_zero (padding_at b n) ≡ true = rw n-is begins.zero in
-    let pad_len : length (padding_at b n) ≡ padding (length a.payload) = omega (arith, length-take (padding n) (drop n b), length-drop n b) in
-    let zeros : padding_at b n ≡ replicate (padding (length a.payload)) 0 = zeros_from_test (padding_at b n) zero ∙ ap (λ (k : ℕ). replicate k 0) pad_len in
-    let up : n + padding n ≡ aligned n = omega arith in
-    let fourth : drop n b ≡ replicate (padding (length a.payload)) 0 ++ drop (aligned n) b = cut (padding n) n b ∙ ap (λ (k : ℕ). padding_at b n ++ drop k b) up ∙ ap (λ (x : List ℕ). x ++ drop (aligned n) b) zeros in
+    let pad_len : length (padding_at b n) ≡ padding_length (length a.payload) = omega (arith, length-take (padding_length n) (drop n b), length-drop n b) in
+    let zeros : padding_at b n ≡ replicate (padding_length (length a.payload)) 0 = zeros_from_test (padding_at b n) zero ∙ ap (λ (k : ℕ). replicate k 0) pad_len in
+    let up : n + padding_length n ≡ aligned n = omega arith in
+    let fourth : drop n b ≡ replicate (padding_length (length a.payload)) 0 ++ drop (aligned n) b = cut (padding_length n) n b ∙ ap (λ (k : ℕ). padding_at b n ++ drop k b) up ∙ ap (λ (x : List ℕ). x ++ drop (aligned n) b) zeros in
     four_parts b _ _ _ _ (drop 2 b) (drop 4 b) (drop n b) (drop (aligned n) b) first second third fourth
 
 kind_field_by : (field : ℕ) (nested : Bool) → field < 2 ^ 16 → bit14 field ≡ 0 → (nested ≡ true → 32768 ≤ field) → (nested ≡ false → field < 32768) → kind_field (field % 16384) nested ≡ field
@@ -51,8 +51,8 @@ kind_field_by field false fits bit set clear = let low = clear refl in omega ari
 pub kind_field_of : (field : ℕ) → field < 2 ^ 16 → bit14 field ≡ 0 → kind_field (field % 16384) (leb 32768 field) ≡ field
 kind_field_of field fits bit = kind_field_by field (leb 32768 field) fits bit (leb-true 32768 field) (leb-false 32768 field)
 
-pub u16_at-lt : (b : List ℕ) (i : ℕ) → IsBytes b → u16_at b i < 2 ^ 16
-unfolding u16_at
+pub u16_at-lt : (b : List ℕ) (i : ℕ) → IsBytes b → le16_at b i < 2 ^ 16
+unfolding le16_at
 u16_at-lt b i fits =
     let part = IsBytes-part 2 i b fits in
     omega (arith, part 0, part 1)

@@ -7,7 +7,7 @@ use Rattle.std.proofs.lemmas.List.Concat.{flat_map-append}
 use Rattle.nl_attrs.specs.Endian.{le32}
 use Rattle.nl_attrs.specs.Attributes.{aligned, attr_bytes, attrs_bytes}
 use Rattle.nl_attrs.specs.Overlong.{IsShort, IsFirstLong, IsEncodeFault}
-use Rattle.nl_attrs.specs.Reading.{IsSizeFault}
+use Rattle.nl_attrs.specs.inner.Reading.{IsSizeFault}
 use Rattle.nl_attrs.specs.Messages.{head_bytes, spelled, IsMsg}
 use Rattle.nl_attrs.specs.declared.attr.Attr.{Attr}
 use Rattle.nl_attrs.specs.declared.fault.EncodeFault.{EncodeFault}

@@ -1,7 +1,7 @@
 -- Attributes, their one spelling, and where bytes aren't attributes.
 use Rattle.std.specs.Prelude.{◌≡◌, ℕ, ◌+◌, ◌-◌, ◌*◌, ◌/◌, ◌%◌, ◌<◌, ◌≤◌, ◌==◌, ◌⊎◌, Bool, true, false, List, ◌++◌, length, take, drop, replicate, All, Result, Ok, Err}
 use Rattle.std.specs.List.{flat_map, list_all}
-use Rattle.nl_attrs.specs.Endian.{le16, u16_at}
+use Rattle.nl_attrs.specs.Endian.{le16, le16_at}
 use Rattle.nl_attrs.specs.declared.attr.Attr.{Attr}
 use Rattle.nl_attrs.specs.declared.fault.AttrsFault.{AttrsFault}
 use Rattle.nl_attrs.specs.declared.fault.AttrsFault.TheVariants as attrs_faults
@@ -16,8 +16,8 @@ abbrev pub aligned : ℕ → ℕ
 aligned n = (n + 3) / 4 * 4
 
 -- so many zero bytes stand behind n bytes
-abbrev pub padding : ℕ → ℕ
-padding n = aligned n - n
+abbrev pub padding_length : ℕ → ℕ
+padding_length n = aligned n - n
 
 -- the kind, with bit 15 for nested
 abbrev pub kind_field : ℕ → Bool → ℕ
@@ -28,14 +28,14 @@ kind_field kind false = kind
 unfoldable pub attr_bytes : Attr → List ℕ
 attr_bytes a =
     le16 (4 + length a.payload)
-    ++ (le16 (kind_field a.kind a.nested) ++ (a.payload ++ replicate (padding (length a.payload)) 0))
+    ++ (le16 (kind_field a.kind a.nested) ++ (a.payload ++ replicate (padding_length (length a.payload)) 0))
 
 abbrev pub attrs_bytes : List Attr → List ℕ
 attrs_bytes attrs = flat_map attr_bytes attrs
 
 -- the bytes between the end that a length names and the next multiple of 4
 abbrev pub padding_at : List ℕ → ℕ → List ℕ
-padding_at bytes n = take (padding n) (drop n bytes)
+padding_at bytes n = take (padding_length n) (drop n bytes)
 
 abbrev pub is_zero : List ℕ → Bool
 is_zero bytes = list_all (λ b. b == 0) bytes
@@ -49,10 +49,10 @@ bit14 field = field / 16384 % 2
 abbrev pub IsBroken : List ℕ → Type 0
 IsBroken bytes =
     (length bytes < 4)
-    ⊎ ((u16_at bytes 0 < 4)
-    ⊎ ((length bytes < aligned (u16_at bytes 0))
-    ⊎ ((bit14 (u16_at bytes 2) ≡ 1)
-    ⊎ (is_zero (padding_at bytes (u16_at bytes 0)) ≡ false))))
+    ⊎ ((le16_at bytes 0 < 4)
+    ⊎ ((length bytes < aligned (le16_at bytes 0))
+    ⊎ ((bit14 (le16_at bytes 2) ≡ 1)
+    ⊎ (is_zero (padding_at bytes (le16_at bytes 0)) ≡ false))))
 
 -- the first bytes that are no attribute stand at this place
 pub record IsFirstBreach (bytes : List ℕ) (place : ℕ) : Type 0 where

@@ -10,8 +10,8 @@ unfoldable pub le32 : ℕ → List ℕ
 le32 n = to_le_bytes w32 n
 
 -- the number in the two or four bytes from place i on
-unfoldable pub u16_at : List ℕ → ℕ → ℕ
-u16_at b i = from_le_bytes w16 (take 2 (drop i b))
+unfoldable pub le16_at : List ℕ → ℕ → ℕ
+le16_at b i = from_le_bytes w16 (take 2 (drop i b))
 
-unfoldable pub u32_at : List ℕ → ℕ → ℕ
-u32_at b i = from_le_bytes w32 (take 4 (drop i b))
+unfoldable pub le32_at : List ℕ → ℕ → ℕ
+le32_at b i = from_le_bytes w32 (take 4 (drop i b))

@@ -1,16 +1,16 @@
 -- What is wrong with the bytes at the front of a stream, and when it is judged.
 use Rattle.std.specs.Prelude.{◌≡◌, ◌≢◌, ℕ, ◌+◌, ◌%◌, ◌<◌, ◌≤◌, ◌==◌, ◌⊎◌, ◌&&◌, ◌||◌, not, nat_lt, nat_le, List, length, take, drop, Option, Some, None, if◌then◌else◌}
-use Rattle.nl_attrs.specs.Endian.{u16_at, u32_at}
+use Rattle.nl_attrs.specs.Endian.{le16_at, le32_at}
 use Rattle.nl_attrs.specs.Attributes.{IsFirstBreach}
 use Rattle.nl_attrs.specs.declared.fault.AttrFault.{AttrFault}
 use Rattle.nl_attrs.specs.declared.fault.AttrFault.TheVariants.{BadLength, Overlong, BadType, BadAttr}
 
 -- the length and the type that the bytes state
 abbrev pub length_at : List ℕ → ℕ
-length_at held = u32_at held 0
+length_at held = le32_at held 0
 
 abbrev pub type_at : List ℕ → ℕ
-type_at held = u16_at held 4
+type_at held = le16_at held 4
 
 -- the fault of a length: below 20 or no multiple of 4, or else above 65,536
 unfoldable pub length_fault : ℕ → Option AttrFault
@@ -43,8 +43,8 @@ body_at held = drop 16 (take (length_at held) held)
 -- first byte of the message on.
 abbrev pub IsBadBody : List ℕ → ℕ → Type 0
 IsBadBody body place =
-    ((u16_at body 2 ≢ 0) × (place ≡ 18))
-    ⊎ ((u16_at body 2 ≡ 0) × ((k : ℕ) × IsFirstBreach (drop 4 body) k × (place ≡ 20 + k)))
+    ((le16_at body 2 ≢ 0) × (place ≡ 18))
+    ⊎ ((le16_at body 2 ≡ 0) × ((k : ℕ) × IsFirstBreach (drop 4 body) k × (place ≡ 20 + k)))
 
 -- a message of a family is whole, and its head has no fault
 pub record IsFamilyWhole (held : List ℕ) : Type 0 where

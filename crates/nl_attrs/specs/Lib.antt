@@ -4,4 +4,4 @@ pub mod Messages
 pub mod Overlong
 pub mod Faults
 pub mod Streams
-pub mod Reading
+pub mod inner

@@ -18,10 +18,10 @@ type_of (Generic family flags seq pid cmd version attrs) = family
 type_of (Error flags seq pid code head) = 2
 type_of (Done flags seq pid code) = 3
 
-abbrev pub flags_of : Msg → ℕ
-flags_of (Generic family flags seq pid cmd version attrs) = flags
-flags_of (Error flags seq pid code head) = flags
-flags_of (Done flags seq pid code) = flags
+abbrev pub header_flags : Msg → ℕ
+header_flags (Generic family flags seq pid cmd version attrs) = flags
+header_flags (Error flags seq pid code head) = flags
+header_flags (Done flags seq pid code) = flags
 
 abbrev pub seq_of : Msg → ℕ
 seq_of (Generic family flags seq pid cmd version attrs) = seq
@@ -47,7 +47,7 @@ body_of (Done flags seq pid code) = le32 (cast_unsigned w32 code)
 
 -- The one spelling of a message. Its length counts the head, which has 16 bytes.
 unfoldable pub spelled : Msg → List ℕ
-spelled m = head_bytes (16 + length (body_of m)) (type_of m) (flags_of m) (seq_of m) (pid_of m) ++ body_of m
+spelled m = head_bytes (16 + length (body_of m)) (type_of m) (header_flags m) (seq_of m) (pid_of m) ++ body_of m
 
 abbrev pub all_spelled : List Msg → List ℕ
 all_spelled messages = flat_map spelled messages
@@ -66,7 +66,7 @@ FitsBody (Done flags seq pid code) = FitsSigned w32 code
 
 -- what has a spelling
 pub record IsMsg (m : Msg) : Type 0 where
-  pub flags : flags_of m < 2 ^ 16
+  pub flags : header_flags m < 2 ^ 16
   pub seq : seq_of m < 2 ^ 32
   pub pid : pid_of m < 2 ^ 32
   pub body : FitsBody m

@@ -26,8 +26,8 @@ pub record Decoding : Type 0 where
   pub taken : ℕ
   pub fault : Option AttrFault
 
-abbrev pub fresh : Decoding
-fresh = record { held = []; taken = 0; fault = None }
+abbrev pub nothing_fed : Decoding
+nothing_fed = record { held = []; taken = 0; fault = None }
 
 -- feeding adds the piece to what is held, and nothing after a fault
 abbrev pub held_with : Option AttrFault → List ℕ → List ℕ → List ℕ
@@ -38,7 +38,7 @@ abbrev pub with_piece : Decoding → List ℕ → Decoding
 with_piece d piece = record { held = held_with d.fault d.held piece; taken = d.taken; fault = d.fault }
 
 -- The message stood at the front and was taken. Each has at least 20 bytes, so asking for the next one ends.
-pub record Takes (old new : Decoding) (m : Msg) : Type 0 where
+pub record TakesMsg (old new : Decoding) (m : Msg) : Type 0 where
   pub message : IsMsg m
   pub front : old.held ≡ spelled m ++ new.held
   pub long : 20 ≤ length (spelled m)
@@ -53,7 +53,7 @@ pub record Waits (old new : Decoding) : Type 0 where
   pub same : new ≡ old
 
 -- The fault is met, or was met before.
-pub record Meets (old new : Decoding) (fault : AttrFault) : Type 0 where
+pub record MeetsFault (old new : Decoding) (fault : AttrFault) : Type 0 where
   pub met : MatchOption old.fault (IsFault old.held fault) (λ before. fault ≡ before)
   pub held : new.held ≡ old.held
   pub taken : new.taken ≡ old.taken
@@ -61,7 +61,7 @@ pub record Meets (old new : Decoding) (fault : AttrFault) : Type 0 where
 
 -- why no message is taken; only a whole one of a family takes memory
 abbrev pub IsNextFault : Decoding → Decoding → NextFault → Type 0
-IsNextFault old new (Bad fault) = Meets old new fault
+IsNextFault old new (Bad fault) = MeetsFault old new fault
 IsNextFault old new OutOfMemory = (old.fault ≡ None) × (new ≡ old) × IsFamilyWhole old.held
 
 -- What was fed is the spellings of the messages given, the bytes held, and bytes that were fed after a fault and are
@@ -93,6 +93,6 @@ pub record IsTruncated (fed : List ℕ) (given : List Msg) (fault : AttrFault) :
   pub is : fault ≡ Truncated (length rest)
 
 -- The stream ends with the last message given, or it has the fault behind it, or bytes are left.
-abbrev pub Ends : List ℕ → List Msg → Result (Unit {0}) AttrFault → Type 0
-Ends fed given (Ok done) = fed ≡ all_spelled given
-Ends fed given (Err fault) = AreMessages fed given (Some fault) ⊎ IsTruncated fed given fault
+abbrev pub EndsStream : List ℕ → List Msg → Result (Unit {0}) AttrFault → Type 0
+EndsStream fed given (Ok done) = fed ≡ all_spelled given
+EndsStream fed given (Err fault) = AreMessages fed given (Some fault) ⊎ IsTruncated fed given fault

@@ -3,14 +3,15 @@
 ghost use Rattle.std.specs.Prelude.{◌≡◌, ◌++◌, List, All, IfOk, IfErr, MatchResult};
 ghost use Rattle.std.specs.Bool.{MatchBool};
 ghost use Rattle.nl_attrs.specs.Attributes.{IsAttr, IsBroken, is_zero, attr_bytes, attrs_bytes, IsAttrsFault, GivesAttrs};
-ghost use Rattle.nl_attrs.specs.Reading.{BeginsAttr};
+ghost use Rattle.nl_attrs.specs.inner.Reading.{BeginsAttr};
 ghost use Rattle.nl_attrs.specs.declared.attr.Attr.{Attr};
 
 use crate::attr::{Attr, HEADER, NESTED, RESERVED, aligned};
 use crate::fault::AttrsFault;
 use crate::lists::AttrList;
 use crate::numbers::u16_at;
-use reg_base::{Bytes, OutOfMemory};
+use reg_base::Bytes;
+use reg_lists::OutOfMemory;
 use std::alloc::Global;
 
 /// Whether all bytes are zero.

@@ -1,14 +1,15 @@
 //! Writes attributes.
 
 ghost use Rattle.std.specs.Prelude.{◌≡◌, ◌+◌, ◌-◌, ◌<◌, ◌≤◌, ◌^◌, ◌++◌, length, min, replicate, All, IfOk, IfErr, OnOk, OnErr, MatchOption};
-ghost use Rattle.nl_attrs.specs.Attributes.{IsAttr, padding, kind_field, attr_bytes, attrs_bytes};
+ghost use Rattle.nl_attrs.specs.Attributes.{IsAttr, padding_length, kind_field, attr_bytes, attrs_bytes};
 ghost use Rattle.nl_attrs.specs.Overlong.{IsShort, IsFirstLong, IsListFault};
 
 use crate::attr::{Attr, HEADER, MOST_PAYLOAD, NESTED, aligned};
 use crate::fault::EncodeFault;
 use crate::lists::AttrList;
 use crate::numbers::put_u16;
-use reg_base::{Bytes, OutOfMemory};
+use reg_base::Bytes;
+use reg_lists::OutOfMemory;
 use std::alloc::Global;
 
 /// The kind with its bit for nested.
@@ -26,7 +27,7 @@ fn kind_field(attr: &Attr) -> u16
 /// Writes zero bytes behind so many bytes, up to a multiple of 4.
 fn put_padding(out: &mut Bytes, length: usize) -> Result<(), OutOfMemory>
     requires { length ≤ 65531 }
-    ensures { OnOk result (out.new ≡ out.old ++ replicate (padding length) 0) }
+    ensures { OnOk result (out.new ≡ out.old ++ replicate (padding_length length) 0) }
 {
     let zeros = [0u8; 3];
     out.append(&zeros[..aligned(length) - length])?;

@@ -5,12 +5,12 @@ ghost use Rattle.nl_attrs.specs.declared.fault.AttrFault.{AttrFault};
 ghost use Rattle.nl_attrs.specs.declared.fault.NextFault.TheVariants.{Bad};
 ghost use Rattle.nl_attrs.specs.declared.message.Msg.{Msg};
 ghost use Rattle.nl_attrs.specs.Messages.{all_spelled};
-ghost use Rattle.nl_attrs.specs.Streams.{Takes, Waits, IsNextFault, IsLeft, Ends, HasGiven, GivesNext, fresh, with_piece};
+ghost use Rattle.nl_attrs.specs.Streams.{TakesMsg, Waits, IsNextFault, IsLeft, EndsStream, HasGiven, GivesNext, nothing_fed, with_piece};
 
 use crate::fault::{AttrFault, NextFault};
 use crate::message::Msg;
 use crate::message_reader::message_at;
-use reg_base::OutOfMemory;
+use reg_lists::OutOfMemory;
 use std::alloc::Global;
 use std::marker::Model;
 
@@ -59,7 +59,7 @@ fn close_up(bytes: &mut Vec<u8>, start: usize) -> usize
 impl Decoder {
     /// A decoder that holds no bytes. It takes no memory until the first ones come.
     pub fn new(alloc: Global) -> Decoder
-        ensures fresh { result ≡ fresh }
+        ensures fresh { result ≡ nothing_fed }
         ensures stream { HasGiven result [] [] }
     {
         Decoder {
@@ -93,7 +93,7 @@ impl Decoder {
     /// is whole yet. `NextFault::Bad` is the first fault of the stream, and comes ever after.
     /// `OutOfMemory` changes nothing.
     pub fn next(&mut self) -> Result<Option<Msg>, NextFault>
-        ensures message { IfOk result (λ found. IfSome found (Takes self.old self.new)) }
+        ensures message { IfOk result (λ found. IfSome found (TakesMsg self.old self.new)) }
         ensures undecided { IfOk result (λ found. IfNone found (Waits self.old self.new)) }
         ensures fault { IfErr result (IsNextFault self.old self.new) }
         ensures again { (fault : AttrFault) → self.old.fault ≡ Some fault → result ≡ Err (Bad fault) }
@@ -126,7 +126,7 @@ impl Decoder {
         ensures fault { IfErr result (IsLeft self.now.fault (length self.now.held)) }
         // What was fed is the spellings of the messages given, or has that fault behind them.
         ensures stream { (fed : List ℕ) (given : List Msg) →
-            HasGiven self.now fed given → Ends fed given result }
+            HasGiven self.now fed given → EndsStream fed given result }
     {
         if let Some(fault) = self.fault {
             return Err(fault);

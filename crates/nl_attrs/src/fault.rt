@@ -5,7 +5,7 @@ ghost use Rattle.nl_attrs.specs.declared.fault.AttrsFault.TheVariants as attrs_f
 ghost use Rattle.nl_attrs.specs.declared.fault.EncodeFault.TheVariants as encode_faults;
 ghost use Rattle.nl_attrs.specs.declared.fault.NextFault.TheVariants as next_faults;
 
-use reg_base::OutOfMemory;
+use reg_lists::OutOfMemory;
 
 /// What is wrong with a stream of messages.
 #[derive(Clone, Copy, Debug, PartialEq, Eq)]

@@ -22,6 +22,3 @@ pub use laws::{one_spelling, one_stream, one_verdict, reads_back};
 pub use lists::{AttrList, MsgList};
 pub use message::Msg;
 pub use message_writer::encode;
-
-#[cfg(test)]
-mod tests;

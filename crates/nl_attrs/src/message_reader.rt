@@ -3,7 +3,7 @@
 ghost use Rattle.std.specs.Prelude.{◌≡◌, ◌+◌, ◌<◌, ◌≤◌, ◌++◌, length, drop, IfOk, IfErr, MatchOption, MatchResult, None};
 ghost use Rattle.nl_attrs.specs.Attributes.{attrs_bytes};
 ghost use Rattle.nl_attrs.specs.Faults.{IsFault, IsUndecided, length_at, type_at, length_fault, type_fault};
-ghost use Rattle.nl_attrs.specs.Reading.{IsGoodHead, IsGoodSoFar, IsBodyRefusal, IsRefusal, IsWhole, TakesMessage};
+ghost use Rattle.nl_attrs.specs.inner.Reading.{IsGoodHead, IsGoodSoFar, IsBodyRefusal, IsNextRefusal, IsWhole, TakesMessage};
 ghost use Rattle.nl_attrs.specs.Messages.{IsMsg, head_bytes, spelled};
 
 use crate::attr_reader::attrs_of;
@@ -194,7 +194,7 @@ fn message_in(alloc: Global, bytes: &[u8]) -> Result<Msg, NextFault>
 pub fn message_at(alloc: Global, held: &[u8]) -> Result<Option<(Msg, usize)>, NextFault>
     ensures message { IfOk result (λ found.
         MatchOption found (IsUndecided held.now) (λ x. TakesMessage held.now x.0 x.1)) }
-    ensures fault { IfErr result (IsRefusal held.now) }
+    ensures fault { IfErr result (IsNextRefusal held.now) }
 {
     match whole_length(held) {
         Ok(Some(length)) => {

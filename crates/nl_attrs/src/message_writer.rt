@@ -3,7 +3,7 @@
 ghost use Rattle.std.specs.Prelude.{◌≡◌, ◌+◌, ◌<◌, ◌≤◌, ◌++◌, ◌∷◌, [], length, All, IfOk, IfErr, OnOk, MatchResult};
 ghost use Rattle.nl_attrs.specs.Attributes.{attrs_bytes};
 ghost use Rattle.nl_attrs.specs.Overlong.{IsEncodeFault, IsShort};
-ghost use Rattle.nl_attrs.specs.Reading.{IsSizeFault};
+ghost use Rattle.nl_attrs.specs.inner.Reading.{IsSizeFault};
 ghost use Rattle.nl_attrs.specs.Messages.{IsInRange, IsMsg, head_bytes, spelled};
 
 use crate::attr::Attr;
@@ -11,7 +11,8 @@ use crate::attr_writer::{attrs_len, first_long, put_attrs};
 use crate::fault::EncodeFault;
 use crate::message::{DONE, DONE_BYTES, ERROR, ERROR_BYTES, GENERIC_BYTES, Head, MOST_BYTES, Msg};
 use crate::numbers::{put_i32, put_u16, put_u32};
-use reg_base::{Bytes, OutOfMemory};
+use reg_base::Bytes;
+use reg_lists::OutOfMemory;
 use std::alloc::Global;
 
 /// Writes the head of a message.

@@ -2,9 +2,10 @@
 
 ghost use Rattle.std.specs.Prelude.{◌≡◌, ◌+◌, ◌≤◌, ◌++◌, length, OnOk};
 ghost use Rattle.std.specs.Int.{w32, cast_signed, cast_unsigned};
-ghost use Rattle.nl_attrs.specs.Endian.{le16, le32, u16_at, u32_at};
+ghost use Rattle.nl_attrs.specs.Endian.{le16, le32, le16_at, le32_at};
 
-use reg_base::{Bytes, OutOfMemory};
+use reg_base::Bytes;
+use reg_lists::OutOfMemory;
 
 /// Writes a number in two bytes.
 #[tactic(auto, unfolding(crate::specs::Endian::le16))]
@@ -34,19 +35,19 @@ pub fn put_i32(out: &mut Bytes, number: i32) -> Result<(), OutOfMemory>
 }
 
 /// The number in the two bytes from a place on.
-#[tactic(auto, unfolding(crate::specs::Endian::u16_at))]
+#[tactic(auto, unfolding(crate::specs::Endian::le16_at))]
 pub fn u16_at(bytes: &[u8], place: usize) -> u16
     requires { place + 2 ≤ length bytes.now }
-    ensures { result ≡ u16_at bytes.now place }
+    ensures { result ≡ le16_at bytes.now place }
 {
     u16::from_le_bytes([bytes[place], bytes[place + 1]])
 }
 
 /// The number in the four bytes from a place on.
-#[tactic(auto, unfolding(crate::specs::Endian::u32_at))]
+#[tactic(auto, unfolding(crate::specs::Endian::le32_at))]
 pub fn u32_at(bytes: &[u8], place: usize) -> u32
     requires { place + 4 ≤ length bytes.now }
-    ensures { result ≡ u32_at bytes.now place }
+    ensures { result ≡ le32_at bytes.now place }
 {
     u32::from_le_bytes([
         bytes[place],
@@ -57,10 +58,10 @@ pub fn u32_at(bytes: &[u8], place: usize) -> u32
 }
 
 /// The signed number in the four bytes from a place on.
-#[tactic(auto, unfolding(crate::specs::Endian::u32_at))]
+#[tactic(auto, unfolding(crate::specs::Endian::le32_at))]
 pub fn i32_at(bytes: &[u8], place: usize) -> i32
     requires { place + 4 ≤ length bytes.now }
-    ensures { result ≡ cast_signed w32 (u32_at bytes.now place) }
+    ensures { result ≡ cast_signed w32 (le32_at bytes.now place) }
 {
     i32::from_le_bytes([
         bytes[place],

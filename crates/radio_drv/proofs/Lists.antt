@@ -1,15 +1,9 @@
 -- Lists of what is on air.
-use Rattle.std.proofs.Common.{◌≡◌, ℕ, zero, suc, ◌==◌, ◌<◌, ◌≤◌, not, Bool, true, false, if◌then◌else◌, List, [], ◌∷◌, ◌++◌, length, take, set, get_or, arith, refl, ap}
+use Rattle.std.proofs.Common.{◌≡◌, ℕ, zero, suc, ◌==◌, ◌<◌, ◌≤◌, not, Bool, true, false, if◌then◌else◌, List, [], ◌∷◌, ◌++◌, length, set, get_or, arith, refl, ap}
 use Rattle.std.proofs.lemmas.Bool.{eq-eqb, ne_eqb}
 use Rattle.radio_drv.specs.Air.{started, stopped}
-use Rattle.radio_drv.specs.First.{IsFirstOf}
+use Rattle.radio_drv.specs.inner.First.{IsFirstOf}
 use Rattle.radio_drv.specs.declared.on_air.OnAir.{OnAir}
-
-pub take-set : (n : ℕ) (xs : List OnAir) (k : ℕ) (entry : OnAir) → take n (set xs k entry) ≡ set (take n xs) k entry
-take-set zero xs k entry = refl
-take-set (suc n) [] k entry = refl
-take-set (suc n) (x ∷ xs) zero entry = refl
-take-set (suc n) (x ∷ xs) (suc k) entry = ap (λ ys. x ∷ ys) (take-set n xs k entry)
 
 pub started_first : (entry : OnAir) (air : List OnAir) (k : ℕ) → IsFirstOf air entry.iface k → set air k entry ≡ started entry air
 started_first entry [] k is = let within = is.within in absurd (omega arith)

@@ -1,5 +1,5 @@
 pub mod Air
-pub mod First
 pub mod Names
 pub mod Seen
 pub mod Simulated
+pub mod inner

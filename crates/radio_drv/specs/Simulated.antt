@@ -4,12 +4,12 @@ use Rattle.radio_drv.specs.declared.on_air.CheckTold.{CheckTold}
 use Rattle.radio_drv.specs.declared.on_air.OnAir.{OnAir}
 
 -- the list on air, and the check last told
-pub record Heard : Type 0 where
+pub record Simulated : Type 0 where
   pub air : List OnAir
   pub told : Option CheckTold
 
 -- and, of a driver that fails at listed calls: the calls by their numbers from 1, how many were made, and how many failed
-pub record FailingHeard : Type 0 where
+pub record FailingSimulated : Type 0 where
   pub air : List OnAir
   pub told : Option CheckTold
   pub failing : List ℕ

@@ -1,12 +1,13 @@
-//! A list of at most eight entries, which takes no memory.
+//! A list of what is on air, which takes no memory.
 
 ghost use Rattle.std.specs.Prelude.{◌≡◌, ℕ, ◌<◌, ◌≤◌, [], ◌∷◌, ◌++◌, length, slice_set, slice_index_or, List, MatchOption};
 ghost use Rattle.radio_drv.specs.Air.{HasPlace, started, stopped, powered, with_power};
-ghost use Rattle.radio_drv.specs.First.{IsFirstOf};
+ghost use Rattle.radio_drv.specs.inner.First.{IsFirstOf};
 
 use crate::iface::IfIndex;
 use crate::on_air::OnAir;
-use chan_def::{ChanDef, Width};
+use chan_def::{ChanDef, MOST_IFACES, Width};
+use reg_lists::Few;
 use std::marker::Model;
 
 /// What fills the places that aren't used.
@@ -20,77 +21,67 @@ const UNUSED: OnAir = OnAir {
     power_mbm: 0,
 };
 
-/// What is on air.
+/// What is on air: as many entries at most as a radio has interfaces.
 #[derive(Debug, Drop)]
 pub(crate) struct AirList {
-    entries: [OnAir; 8],
-    count: usize,
+    entries: Few<OnAir, MOST_IFACES>,
 }
 
 impl Model for AirList {
-    ghost use Rattle.std.specs.Prelude.{List, take, ◌≤◌};
+    ghost use Rattle.std.specs.Prelude.{List};
     ghost use Rattle.radio_drv.specs.declared.on_air.OnAir.{OnAir};
 
     ghost Value = { List OnAir };
 
-    ghost view = { λ l. take l.count l.entries };
-
-    ghost invariant = { λ l. l.count ≤ 8 };
+    ghost view = { λ l. l.entries };
 }
 
 impl AirList {
+    /// Nothing is on air.
     pub(crate) fn new() -> AirList
-        ensures { result ≡ [] }
+        ensures empty { result ≡ [] }
     {
         AirList {
-            entries: [UNUSED; 8],
-            count: 0,
+            entries: Few::new(UNUSED),
         }
     }
 
+    /// All of it.
     pub(crate) fn as_slice(&self) -> &[OnAir]
-        ensures value { result.now ≡ self.now }
-        ensures few { length self.now ≤ 8 }
+        ensures items { result.now ≡ self.now }
+        ensures few { length self.now ≤ MOST_IFACES }
     {
-        &self.entries[..self.count]
+        self.entries.as_slice()
     }
 
     fn push(&mut self, entry: OnAir)
-        requires { length self.old < 8 }
-        ensures { self.new ≡ self.old ++ entry ∷ [] }
+        requires room { length self.old < MOST_IFACES }
+        ensures pushed { self.new ≡ self.old ++ entry ∷ [] }
     {
-        self.entries[self.count] = entry;
-        self.count += 1;
-    }
-
-    fn replace(&mut self, k: usize, entry: OnAir)
-        requires { k < 8 }
-        ensures { self.new ≡ slice_set self.old k entry }
-    {
-        self.entries[k] = entry;
+        let _pushed = self.entries.push(entry);
     }
 
     /// Replaces the interface's entry in its place, or adds it at the end.
     pub(crate) fn start(&mut self, entry: OnAir)
-        requires { HasPlace self.old entry.iface }
-        ensures { self.new ≡ started entry self.old }
+        requires place { HasPlace self.old entry.iface }
+        ensures started { self.new ≡ started entry self.old }
     {
         match place_of(self.as_slice(), entry.iface) {
-            Some(k) => self.replace(k, entry),
+            Some(k) => self.entries.set(k, entry),
             None => self.push(entry),
         }
     }
 
     /// Takes the interface's entry away.
     pub(crate) fn stop(&mut self, iface: IfIndex)
-        ensures { self.new ≡ stopped iface self.old }
+        ensures stopped { self.new ≡ stopped iface self.old }
     {
         *self = without(self.as_slice(), iface);
     }
 
     /// Changes the power of the interface's entry.
     pub(crate) fn set_power(&mut self, iface: IfIndex, power_mbm: u16)
-        ensures { self.new ≡ powered iface power_mbm self.old }
+        ensures powered { self.new ≡ powered iface power_mbm self.old }
     {
         *self = with_powers(self.as_slice(), iface, power_mbm);
     }
@@ -111,7 +102,7 @@ fn place_of(air: &[OnAir], iface: IfIndex) -> Option<usize>
 
 /// The entries of other interfaces.
 fn without(air: &[OnAir], iface: IfIndex) -> AirList
-    requires { length air.now ≤ 8 }
+    requires { length air.now ≤ MOST_IFACES }
     ensures { result ≡ stopped iface air.now }
 {
     let mut others = AirList::new();
@@ -136,7 +127,7 @@ fn powered_entry(entry: OnAir, iface: IfIndex, power_mbm: u16) -> OnAir
 
 /// The entries, the interface's with this power.
 fn with_powers(air: &[OnAir], iface: IfIndex, power_mbm: u16) -> AirList
-    requires { length air.now ≤ 8 }
+    requires { length air.now ≤ MOST_IFACES }
     ensures { result ≡ powered iface power_mbm air.now }
 {
     let mut list = AirList::new();

@@ -46,7 +46,7 @@ pub trait Driver: Drop {
         ensures steady { steady self.new ≡ steady self.old }
         ensures never { IsTrue (steady self.old) → Rose (count self.old) (count self.new) → ⊥ };
 
-    /// Begins a check for radar (`start_radar_detection`), which is then the one last told. `DriverFailed`
+    /// Begins a check for radar (CAC, `start_radar_detection`), which is then the one last told. `DriverFailed`
     /// leaves the one before, and comes only where the count rose.
     fn begin_check(
         &mut self,

@@ -11,7 +11,7 @@ use crate::iface::IfIndex;
 use crate::on_air::{CheckTold, OnAir};
 use crate::sim::SimDriver;
 use chan_def::ChanDef;
-use reg_base::OutOfMemory;
+use reg_lists::OutOfMemory;
 use std::alloc::Global;
 use std::marker::Model;
 
@@ -26,9 +26,9 @@ pub struct FailingDriver {
 }
 
 impl Model for FailingDriver {
-    ghost use Rattle.radio_drv.specs.Simulated.{FailingHeard};
+    ghost use Rattle.radio_drv.specs.Simulated.{FailingSimulated};
 
-    ghost Value = { FailingHeard };
+    ghost Value = { FailingSimulated };
 
     ghost view = { λ d. record {
       air = d.driver.air;

@@ -18,6 +18,3 @@ pub use laws::each_interface_is_once_on_air;
 pub use name::Name;
 pub use on_air::{CheckTold, OnAir};
 pub use sim::SimDriver;
-
-#[cfg(test)]
-mod tests;

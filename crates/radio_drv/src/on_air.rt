@@ -12,7 +12,7 @@ pub struct OnAir {
     pub power_mbm: u16,
 }
 
-/// A check that an interface was told to begin.
+/// A check (CAC, channel availability check) that an interface was told to begin.
 #[derive(Clone, Copy, Debug, PartialEq, Eq)]
 pub struct CheckTold {
     pub iface: IfIndex,

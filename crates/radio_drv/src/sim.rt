@@ -17,9 +17,9 @@ pub struct SimDriver {
 }
 
 impl Model for SimDriver {
-    ghost use Rattle.radio_drv.specs.Simulated.{Heard};
+    ghost use Rattle.radio_drv.specs.Simulated.{Simulated};
 
-    ghost Value = { Heard };
+    ghost Value = { Simulated };
 
     ghost view = { λ d. record { air = d.air; told = d.told } };
 }

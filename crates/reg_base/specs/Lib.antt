@@ -3,3 +3,4 @@ pub mod Causes
 pub mod Files
 pub mod Memory
 pub mod Streams
+pub mod Texts

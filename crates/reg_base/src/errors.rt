@@ -1,23 +1,6 @@
-//! What memory and devices refuse.
+//! What devices refuse.
 
-use std::alloc::{AllocError, AllocFailed};
 use thiserror::Error;
-
-/// No memory was found. What was lent to the call is as before.
-#[derive(Clone, Copy, Debug, PartialEq, Eq)]
-pub struct OutOfMemory;
-
-impl From<AllocError> for OutOfMemory {
-    fn from(_error: AllocError) -> OutOfMemory {
-        OutOfMemory
-    }
-}
-
-impl<T: Drop> From<AllocFailed<T>> for OutOfMemory {
-    fn from(_error: AllocFailed<T>) -> OutOfMemory {
-        OutOfMemory
-    }
-}
 
 /// A source could not be read, or a sink could not be written.
 #[derive(Clone, Copy, Debug, PartialEq, Eq)]

@@ -7,10 +7,11 @@ ghost use Rattle.reg_base.specs.Causes.{HasCause, counted};
 ghost use Rattle.reg_base.specs.Appended.{AppendsAtMost};
 
 use crate::bytes::Bytes;
-use crate::errors::{Failed, OutOfMemory};
+use crate::errors::Failed;
 use crate::memory::{MemSink, MemSource};
 use crate::sink::Sink;
 use crate::source::Source;
+use reg_lists::OutOfMemory;
 use std::alloc::Global;
 use std::marker::Model;
 

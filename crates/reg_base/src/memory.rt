@@ -7,9 +7,10 @@ ghost use Rattle.reg_base.specs.Causes.{HasCause, counted};
 ghost use Rattle.reg_base.specs.Appended.{AppendsAtMost};
 
 use crate::bytes::Bytes;
-use crate::errors::{Failed, OutOfMemory};
+use crate::errors::Failed;
 use crate::sink::Sink;
 use crate::source::Source;
+use reg_lists::OutOfMemory;
 use std::alloc::Global;
 use std::marker::Model;
 

@@ -6,9 +6,10 @@ ghost use Rattle.reg_base.specs.Causes.{counted};
 ghost use Rattle.reg_base.specs.Files.{AreAll, IsFaultAt, IsFileFault, IsReadAt, IsReadOf, IsStoreFault, faults_after, held_by};
 
 use crate::bytes::Bytes;
-use crate::errors::{FileFault, OutOfMemory};
+use crate::errors::FileFault;
 use crate::failing::CallPlan;
 use crate::files::Files;
+use reg_lists::OutOfMemory;
 use std::alloc::Global;
 use std::marker::Model;
 

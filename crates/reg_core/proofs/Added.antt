@@ -9,7 +9,7 @@ use Rattle.dfs_states.specs.Meaning.{IsBlank, AreBlank}
 use Rattle.dfs_states.proofs.Splits.{has_cases}
 use Rattle.reg_journal.specs.Facts.{Journal, radio_added, radio_removed, made}
 use Rattle.reg_journal.specs.Present.{is_used, profile_of, radio_of}
-use Rattle.reg_journal.specs.Due.{AreDue}
+use Rattle.reg_journal.specs.Due.{EachMayFollow}
 use Rattle.reg_core.specs.Calls.{calls_of}
 use Rattle.reg_core.proofs.Newcomers.{blank_calls}
 use Rattle.reg_core.proofs.Over.{region_pushed}
@@ -28,7 +28,7 @@ profile_used (radio_removed q ∷ J) r there = elim (cases_eq r q) [
 profile_used (f ∷ J) r there = profile_used J r there
 
 -- so was one on which an interface was made
-pub radio_used : (db : List Domain) (J : Journal) (i r : ℕ) → AreDue db J → radio_of J i ≡ Some r → is_used J r ≡ true
+pub radio_used : (db : List Domain) (J : Journal) (i r : ℕ) → EachMayFollow db J → radio_of J i ≡ Some r → is_used J r ≡ true
 radio_used db [] i r due radio = absurd (none-some r radio)
 radio_used db (made j name q kind ∷ J) i r due radio = elim (cases_eq i j) [
   | inl same ↦ subst (λ n. is_used J n ≡ true) (same_Some q r (rw (eq-eqb i j same) at radio)) (profile_used J q due.0.3)
@@ -38,7 +38,7 @@ radio_used db (radio_added q profile ∷ J) i r due radio = or_right (r == q) (i
 radio_used db (f ∷ J) i r due radio = radio_used db J i r due.1 radio
 
 -- what a radio finds that has just been added
-pub added_blank : (db : List Domain) (J : Journal) (r : ℕ) (profile : Abilities) → AreDue db (radio_added r profile ∷ J)
+pub added_blank : (db : List Domain) (J : Journal) (r : ℕ) (profile : Abilities) → EachMayFollow db (radio_added r profile ∷ J)
     → AreBlank (calls_of db (radio_added r profile ∷ J) r)
 added_blank db J r profile due =
     region_pushed AreBlank db (radio_added r profile) J r (calls_of db J r)

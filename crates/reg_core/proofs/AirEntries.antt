@@ -8,12 +8,12 @@ use Rattle.rule_tables.specs.declared.domain.Domain.{Domain}
 use Rattle.chan_def.specs.declared.definition.ChanDef.{ChanDef}
 use Rattle.radio_drv.specs.Air.{started as put_on_air, stopped as taken_off, powered as given_power, with_power as entry_with_power}
 use Rattle.radio_drv.specs.declared.on_air.OnAir.{OnAir}
-use Rattle.reg_journal.specs.Due.{AreDue}
+use Rattle.reg_journal.specs.Due.{EachMayFollow}
 use Rattle.reg_journal.specs.Facts.{Fact, Journal, radio_removed, made, started, stopped, powered}
 use Rattle.reg_journal.specs.OnAir.{entry, is_on, on_air_of}
-use Rattle.reg_journal.specs.Present.{Iface, Operation, ifaces_of, ifaces_on, indexed, operation_of, radio_of, with_power}
+use Rattle.reg_journal.specs.Present.{Iface, Operation, ifaces_of, ifaces_on, indexed, operation_of, radio_of, operation_with_power}
 use Rattle.reg_core.specs.Entries.{entry_on}
-use Rattle.reg_core.specs.Heard.{entry_in}
+use Rattle.reg_core.specs.DriverRows.{entry_in}
 use Rattle.reg_core.proofs.Airs.{air_at, air_at-started, air_at-stopped, air_at-powered}
 use Rattle.reg_core.proofs.Homes.{home_found, radio_of_home}
 use Rattle.reg_core.proofs.Interfaces.{radio_listed}
@@ -30,7 +30,7 @@ leaves_air (powered i power) = false
 leaves_air (radio_removed r) = false
 leaves_air f = true
 
-pub entry_on-left : (db : List Domain) (f : Fact) (J : Journal) (r i : ℕ) → AreDue db (f ∷ J) → leaves_air f ≡ true → entry_on (f ∷ J) r i ≡ entry_on J r i
+pub entry_on-left : (db : List Domain) (f : Fact) (J : Journal) (r i : ℕ) → EachMayFollow db (f ∷ J) → leaves_air f ≡ true → entry_on (f ∷ J) r i ≡ entry_on J r i
 entry_on-left db (started j chan power) J r i due leaves = absurd (false≢true leaves)
 entry_on-left db (stopped j) J r i due leaves = absurd (false≢true leaves)
 entry_on-left db (powered j power) J r i due leaves = absurd (false≢true leaves)
@@ -86,12 +86,12 @@ entry_on-powered J r i j power = elim (cases_eq i j) [
   | inr other ↦ rw (ne_eqb i j other) (both (is_on J j r) (entry_on J r i))
 ]
   where
-    moved : (o : Option Operation) → option_map (λ (o : Operation). entry i o.chan o.power) (option_map (with_power power) o)
+    moved : (o : Option Operation) → option_map (λ (o : Operation). entry i o.chan o.power) (option_map (operation_with_power power) o)
         ≡ option_map (entry_with_power i power) (option_map (λ (o : Operation). entry i o.chan o.power) o)
     moved None = refl
     moved (Some o) = rw (eq-eqb i i refl) refl
 
-    own : (b : Bool) (o : Option Operation) → (if b then option_map (λ (o : Operation). entry i o.chan o.power) (option_map (with_power power) o) else None)
+    own : (b : Bool) (o : Option Operation) → (if b then option_map (λ (o : Operation). entry i o.chan o.power) (option_map (operation_with_power power) o) else None)
         ≡ (if b then option_map (entry_with_power i power) (if b then option_map (λ (o : Operation). entry i o.chan o.power) o else None)
         else (if b then option_map (λ (o : Operation). entry i o.chan o.power) o else None))
     own true o = moved o
@@ -104,7 +104,7 @@ air_at-if true air air' i = refl
 air_at-if false air air' i = refl
 
 -- the list of a radio has exactly the operations of the interfaces that were made on it
-pub on_air_entry : (db : List Domain) (J : Journal) (r i : ℕ) → AreDue db J → air_at (on_air_of J r) i ≡ entry_on J r i
+pub on_air_entry : (db : List Domain) (J : Journal) (r i : ℕ) → EachMayFollow db J → air_at (on_air_of J r) i ≡ entry_on J r i
 on_air_entry db [] r i due = refl
 on_air_entry db (started j chan power ∷ J) r i due =
     let rest = on_air_entry db J r i due.1 in
@@ -141,7 +141,7 @@ found_behind p q (y ∷ xs) x none has passes is = elim (cases_Bool (p y)) [
 ]
 
 -- where an interface that was made on the radio operates, it is one of the radio's
-pub operating_on : (db : List Domain) (J : Journal) (r i : ℕ) (o : Operation) → AreDue db J → is_on J i r ≡ true → operation_of J i ≡ Some o
+pub operating_on : (db : List Domain) (J : Journal) (r i : ℕ) (o : Operation) → EachMayFollow db J → is_on J i r ≡ true → operation_of J i ≡ Some o
     → (x : Iface) × Contains (ifaces_of J) x × (x.index ≡ i) × (x.radio ≡ r)
 operating_on db J r i o due on is =
     let home = operation_home db J i o due is in
@@ -154,7 +154,7 @@ operating_on db J r i o due on is =
     there (Some x) found some = (x, Contains-find (λ y. y.index == i) (ifaces_of J) x found, index_of_indexed J i x found, same_Some x.radio r some)
 
 -- what the radio's interface of this index has on air, where it is there, is what it has that was made there
-pub entries_alike : (db : List Domain) (J : Journal) (r i : ℕ) → AreDue db J → entry_in J r i ≡ entry_on J r i
+pub entries_alike : (db : List Domain) (J : Journal) (r i : ℕ) → EachMayFollow db J → entry_in J r i ≡ entry_on J r i
 entries_alike db J r i due = by (find (λ x. x.index == i) (ifaces_on J r)) refl
   where
     none_made : find (λ x. x.index == i) (ifaces_on J r) ≡ None → (b : Bool) → is_on J i r ≡ b → (o : Option Operation) → operation_of J i ≡ o

@@ -7,7 +7,7 @@ use Rattle.rule_tables.specs.declared.domain.Domain.{Domain}
 use Rattle.chan_def.specs.declared.kind.Kind.{Kind}
 use Rattle.reg_journal.specs.Facts.{Journal, made}
 use Rattle.reg_journal.specs.Present.{Iface, ifaces_of, ifaces_on}
-use Rattle.reg_journal.specs.Due.{AreDue}
+use Rattle.reg_journal.specs.Due.{EachMayFollow}
 use Rattle.reg_core.specs.Slots.{free_slot, slot_of}
 use Rattle.reg_core.proofs.Free.{is_taken, free_slot-apart, free_slot-small}
 use Rattle.reg_core.proofs.Homes.{home_in, home_of, home_cases, radio_of_home}
@@ -38,7 +38,7 @@ home_taken slot (x ∷ xs) i r is = elim (cases_eq x.index i) [
 ]
 
 -- an interface gets a slot that none has which is there on its radio
-new_slot : (db : List Domain) (J : Journal) (j i r : ℕ) (name : List ℕ) (kind : Kind) → AreDue db (made j name r kind ∷ J) → home_of J i ≡ Some r
+new_slot : (db : List Domain) (J : Journal) (j i r : ℕ) (name : List ℕ) (kind : Kind) → EachMayFollow db (made j name r kind ∷ J) → home_of J i ≡ Some r
     → slot_of (made j name r kind ∷ J) j ≡ slot_of J i → ⊥
 new_slot db J j i r name kind due is same =
     let slots : List ℕ = map (λ x. slot_of J x.index) (ifaces_on J r) in
@@ -49,7 +49,7 @@ new_slot db J j i r name kind due is same =
     false≢true (sym free ∙ rw given taken)
 
 -- the radio of the interface that has just been made
-made_home : (db : List Domain) (J : Journal) (j q r : ℕ) (name : List ℕ) (kind : Kind) → AreDue db (made j name q kind ∷ J)
+made_home : (db : List Domain) (J : Journal) (j q r : ℕ) (name : List ℕ) (kind : Kind) → EachMayFollow db (made j name q kind ∷ J)
     → home_of (made j name q kind ∷ J) j ≡ Some r → q ≡ r
 made_home db J j q r name kind due is =
     let radio = radio_of_home db (made j name q kind ∷ J) j r due is in
@@ -64,7 +64,7 @@ beside_made J i j q r name kind other is = elim (home_cases (made j name q kind)
 ]
 
 -- of two interfaces that are there on a radio, in one slot, each is the other
-pub slots_apart : (db : List Domain) (J : Journal) (i j r : ℕ) → AreDue db J → home_of J i ≡ Some r → home_of J j ≡ Some r
+pub slots_apart : (db : List Domain) (J : Journal) (i j r : ℕ) → EachMayFollow db J → home_of J i ≡ Some r → home_of J j ≡ Some r
     → slot_of J i ≡ slot_of J j → i ≡ j
 slots_apart db [] i j r due here there slots = absurd (none-some r here)
 slots_apart db (made k name q kind ∷ J) i j r due here there slots = elim (cases_eq i k) [

@@ -6,7 +6,7 @@ use Rattle.chan_def.specs.declared.definition.ChanDef.{ChanDef}
 use Rattle.dfs_states.specs.Calls.{Begin, HasBegin}
 use Rattle.reg_journal.specs.Facts.{Fact, Journal, check_begun}
 use Rattle.reg_journal.specs.Present.{Check, radio_of, check_of}
-use Rattle.reg_journal.specs.Due.{AreDue}
+use Rattle.reg_journal.specs.Due.{EachMayFollow}
 use Rattle.reg_journal.specs.Radar.{HasCheck}
 use Rattle.reg_core.specs.Slots.{slot_of}
 use Rattle.reg_core.proofs.Apart.{slots_apart}
@@ -20,26 +20,26 @@ use Rattle.reg_core.proofs.Splits.{check_front}
 -- ---- where facts stand
 
 -- a fact among the newer ones came where it might
-pub due_at : (db : List Domain) (facts newer between base : Journal) (f : Fact) → AreDue db (facts ++ base) → facts ≡ newer ++ f ∷ between
-    → AreDue db (f ∷ (between ++ base))
-due_at db facts newer between base f due at = due_older db newer (f ∷ (between ++ base)) (subst (AreDue db) (whole_at facts newer between base f at) due)
+pub due_at : (db : List Domain) (facts newer between base : Journal) (f : Fact) → EachMayFollow db (facts ++ base) → facts ≡ newer ++ f ∷ between
+    → EachMayFollow db (f ∷ (between ++ base))
+due_at db facts newer between base f due at = due_older db newer (f ∷ (between ++ base)) (subst (EachMayFollow db) (whole_at facts newer between base f at) due)
 
 -- an interface that was there was on the radio that it has
-pub home_back : (db : List Domain) (newer base : Journal) (i q r : ℕ) → AreDue db (newer ++ base) → home_of base i ≡ Some q
+pub home_back : (db : List Domain) (newer base : Journal) (i q r : ℕ) → EachMayFollow db (newer ++ base) → home_of base i ≡ Some q
     → radio_of (newer ++ base) i ≡ Some r → home_of base i ≡ Some r
 home_back db newer base i q r due home radio =
     let was = radio_later db newer base i q due (radio_of_home db base i q (due_older db newer base due) home) in
     home ∙ sym was ∙ radio
 
 -- so was one with a running check
-pub running_home : (db : List Domain) (newer base : Journal) (i r : ℕ) (k : Check) → AreDue db (newer ++ base) → radio_of (newer ++ base) i ≡ Some r
+pub running_home : (db : List Domain) (newer base : Journal) (i r : ℕ) (k : Check) → EachMayFollow db (newer ++ base) → radio_of (newer ++ base) i ≡ Some r
     → check_of base i ≡ Some k → home_of base i ≡ Some r
 running_home db newer base i r k due radio check =
     let home = check_home db base i k (due_older db newer base due) check in
     home_back db newer base i home.0 r due home.1 radio
 
 -- and one on which a check began
-pub home_begun : (db : List Domain) (J : Journal) (i r : ℕ) (chan : ChanDef) (length : ℕ) → AreDue db (check_begun i chan length ∷ J)
+pub home_begun : (db : List Domain) (J : Journal) (i r : ℕ) (chan : ChanDef) (length : ℕ) → EachMayFollow db (check_begun i chan length ∷ J)
     → radio_of J i ≡ Some r → home_of J i ≡ Some r
 home_begun db J i r chan length due radio =
     let home = home_indexed J i due.0.0.0 in
@@ -47,7 +47,7 @@ home_begun db J i r chan length due radio =
 
 -- it was on that radio when the check began
 pub radio_begun : (db : List Domain) (newer older : Journal) (i r : ℕ) (chan : ChanDef) (length : ℕ)
-    → AreDue db (newer ++ check_begun i chan length ∷ older) → radio_of (newer ++ check_begun i chan length ∷ older) i ≡ Some r → radio_of older i ≡ Some r
+    → EachMayFollow db (newer ++ check_begun i chan length ∷ older) → radio_of (newer ++ check_begun i chan length ∷ older) i ≡ Some r → radio_of older i ≡ Some r
 radio_begun db newer older i r chan length due radio =
     let base : Journal = check_begun i chan length ∷ older in
     let due' = due_older db newer base due in
@@ -85,13 +85,13 @@ began_in db facts base r slot has =
     }
 
 -- a check that began on an interface began in its slot
-pub begin_of_check : (db : List Domain) (facts base : Journal) (i r : ℕ) → AreDue db (facts ++ base) → radio_of (facts ++ base) i ≡ Some r
+pub begin_of_check : (db : List Domain) (facts base : Journal) (i r : ℕ) → EachMayFollow db (facts ++ base) → radio_of (facts ++ base) i ≡ Some r
     → HasCheck facts i → HasBegin (calls_over db facts base r) (slot_of (facts ++ base) i)
 begin_of_check db facts base i r due radio has =
     let before : Journal = has.older ++ base in
     let begun : Journal = check_begun i has.chan has.length ∷ before in
     let whole = whole_at facts has.newer has.older base (check_begun i has.chan has.length) has.begun in
-    let due' : AreDue db (has.newer ++ begun) = subst (AreDue db) whole due in
+    let due' : EachMayFollow db (has.newer ++ begun) = subst (EachMayFollow db) whole due in
     let radio' = radio_begun db has.newer before i r has.chan has.length due' (subst (λ xs. radio_of xs i ≡ Some r) whole radio) in
     let slots : slot_of (facts ++ base) i ≡ slot_of before i = ap (λ xs. slot_of xs i) whole ∙ slot_later db has.newer begun i r due' radio' in
     subst (λ n. HasBegin (calls_over db facts base r) n) (sym slots) (record {
@@ -106,15 +106,15 @@ begin_of_check db facts base i r due radio has =
     })
 
 -- a check that began in the slot of a running one, since or just before that one did, is on the same interface
-pub began_again : (db : List Domain) (facts base : Journal) (i r : ℕ) (k : Check) → AreDue db (facts ++ base) → radio_of base i ≡ Some r
+pub began_again : (db : List Domain) (facts base : Journal) (i r : ℕ) (k : Check) → EachMayFollow db (facts ++ base) → radio_of base i ≡ Some r
     → check_of (facts ++ base) i ≡ Some k → HasBegin (calls_over db facts base r) (slot_of base i) → HasCheck facts i
 began_again db facts base i r k due radio check has =
     let began = began_in db facts base r (slot_of base i) has in
     let fact : Fact = check_begun began.iface began.chan began.length in
     let before : Journal = began.between ++ base in
     let whole = whole_at facts began.newer began.between base fact began.at in
-    let due' : AreDue db (began.newer ++ fact ∷ before) = subst (AreDue db) whole due in
-    let due_begun : AreDue db (fact ∷ before) = due_older db began.newer (fact ∷ before) due' in
+    let due' : EachMayFollow db (began.newer ++ fact ∷ before) = subst (EachMayFollow db) whole due in
+    let due_begun : EachMayFollow db (fact ∷ before) = due_older db began.newer (fact ∷ before) due' in
     elim (cases_eq began.iface i) [
       | inl same ↦ this began same
       | inr other ↦ elim (check_before db began.newer (fact ∷ before) i k due' (subst (λ xs. check_of xs i ≡ Some k) whole check)) [

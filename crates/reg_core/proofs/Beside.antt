@@ -6,16 +6,17 @@ use Rattle.std.proofs.lemmas.List.{at_drop_more, get_or-map, get_or_default, len
 use Rattle.chan_def.specs.declared.definition.ChanDef.{ChanDef}
 use Rattle.rule_tables.specs.declared.domain.Domain.{Domain}
 use Rattle.dfs_states.specs.Book.{Book}
-use Rattle.dfs_states.specs.StandsFor.{StandsFor}
+use Rattle.dfs_states.specs.StandsFor.{BookStandsFor}
 use Rattle.reg_journal.specs.Facts.{Journal}
-use Rattle.reg_journal.specs.Permits.{channel_of, distinct_from, is_same_channel}
+use Rattle.chan_def.specs.Same.{is_same_channel}
+use Rattle.reg_journal.specs.Permits.{channel_of, distinct_from}
 use Rattle.reg_journal.specs.Present.{Iface, ifaces_of, is_apart}
 use Rattle.reg_core.specs.Calls.{calls_of}
-use Rattle.reg_core.specs.Contexts.{IsBeside, IsOf, added, channel_beside}
-use Rattle.reg_core.specs.Judging.{IsAmong}
-use Rattle.reg_core.specs.Kept.{kept, ports_of}
-use Rattle.reg_core.specs.Ports.{is_on_radio}
-use Rattle.reg_core.specs.declared.port.Port.{Port}
+use Rattle.reg_core.specs.inner.Contexts.{IsBeside, IsOf, added, channel_beside}
+use Rattle.reg_core.specs.inner.Judging.{IsAmong}
+use Rattle.reg_core.specs.Kept.{kept, interfaces_of}
+use Rattle.reg_core.specs.inner.Interfaces.{is_on_radio}
+use Rattle.reg_core.specs.declared.interface.Interface.{Interface}
 use Rattle.reg_core.specs.declared.radio.Radio.{Radio}
 
 -- the walk: the channel of each interface that is another one of the radio
@@ -53,30 +54,30 @@ distinct_longer found (c ∷ cs) =
 -- ---- one interface
 
 -- the channel of another one of the radio
-pub beside_other : (J : Journal) (x y : Iface) (port other : Port) → port ≡ kept J x → other ≡ kept J y → (other.index == port.index) ≡ false → is_on_radio port.radio other ≡ true
+pub beside_other : (J : Journal) (x y : Iface) (interface other : Interface) → interface ≡ kept J x → other ≡ kept J y → (other.index == interface.index) ≡ false → is_on_radio interface.radio other ≡ true
     → channel_of J y ≡ channel_beside J x y
-beside_other J x y port other port_is other_is apart on = sym (ap (λ b. cond (b && is_apart x.index y) (channel_of J y) None) same ∙ ap (λ b. cond (not b) (channel_of J y) None) differs)
+beside_other J x y interface other interface_is other_is apart on = sym (ap (λ b. cond (b && is_apart x.index y) (channel_of J y) None) same ∙ ap (λ b. cond (not b) (channel_of J y) None) differs)
   where
     same : (y.radio == x.radio) ≡ true
-    same = subst (λ (p : Port). (y.radio == p.radio) ≡ true) port_is (subst (λ (p : Port). (p.radio == port.radio) ≡ true) other_is on)
+    same = subst (λ (p : Interface). (y.radio == p.radio) ≡ true) interface_is (subst (λ (p : Interface). (p.radio == interface.radio) ≡ true) other_is on)
 
     differs : (y.index == x.index) ≡ false
-    differs = subst (λ (p : Port). (y.index == p.index) ≡ false) port_is (subst (λ (p : Port). (p.index == port.index) ≡ false) other_is apart)
+    differs = subst (λ (p : Interface). (y.index == p.index) ≡ false) interface_is (subst (λ (p : Interface). (p.index == interface.index) ≡ false) other_is apart)
 
 -- what is kept of it, on the same radio
-pub is_of_other : (db : List Domain) (J : Journal) (x y : Iface) (book : Book) (port other : Port) → IsBeside db J x y book port other → is_on_radio port.radio other ≡ true
+pub is_of_other : (db : List Domain) (J : Journal) (x y : Iface) (book : Book) (interface other : Interface) → IsBeside db J x y book interface other → is_on_radio interface.radio other ≡ true
     → IsOf db J y book other
-is_of_other db J x y book port other is on = record {
+is_of_other db J x y book interface other is on = record {
   due = is.of.due;
   there = is.other_there;
-  port_is = is.other_is;
+  interface_is = is.other_is;
   channels = is.of.channels;
-  book_is = subst (λ r. StandsFor book is.of.channels (calls_of db J r)) (sym same) is.of.book_is;
+  book_is = subst (λ r. BookStandsFor book is.of.channels (calls_of db J r)) (sym same) is.of.book_is;
 }
   where
     same : y.radio ≡ x.radio
     same = eqb-true y.radio x.radio
-        (subst (λ (p : Port). (y.radio == p.radio) ≡ true) is.of.port_is (subst (λ (p : Port). (p.radio == port.radio) ≡ true) is.other_is on))
+        (subst (λ (p : Interface). (y.radio == p.radio) ≡ true) is.of.interface_is (subst (λ (p : Interface). (p.radio == interface.radio) ≡ true) is.other_is on))
 
 -- ---- the walk
 
@@ -89,14 +90,14 @@ walk_more J x y found ys i o within here is =
     ∙ ap (λ p. distinct_from found (cons_option p (beside_all J x (drop (i + 1) ys)))) (sym is)
 
 -- the interface at a place of what is kept
-record IsAt (J : Journal) (ys : List Iface) (i : ℕ) (port : Port) : Type 0 where
+record IsAt (J : Journal) (ys : List Iface) (i : ℕ) (interface : Interface) : Type 0 where
   pub iface : Iface
   pub within : i < length ys
   pub here : iface ≡ get_or ys i iface
-  pub is : port ≡ kept J iface
+  pub is : interface ≡ kept J iface
 
-kept_at : (J : Journal) (x : Iface) (ports : List Port) (i : ℕ) (d : Port) → ports ≡ ports_of J → i < length ports → IsAt J (ifaces_of J) i (get_or ports i d)
-kept_at J x ports i d same below = record {
+kept_at : (J : Journal) (x : Iface) (interfaces : List Interface) (i : ℕ) (d : Interface) → interfaces ≡ interfaces_of J → i < length interfaces → IsAt J (ifaces_of J) i (get_or interfaces i d)
+kept_at J x interfaces i d same below = record {
   iface = y;
   within = within;
   here = get_or_default (ifaces_of J) i x y within;
@@ -109,32 +110,32 @@ kept_at J x ports i d same below = record {
     y : Iface
     y = get_or (ifaces_of J) i x
 
-beside_at : (db : List Domain) (J : Journal) (x : Iface) (book : Book) (port other : Port) (i : ℕ) → IsOf db J x book port → (at_place : IsAt J (ifaces_of J) i other)
-    → IsBeside db J x at_place.iface book port other
-beside_at db J x book port other i is at_place = record {
+beside_at : (db : List Domain) (J : Journal) (x : Iface) (book : Book) (interface other : Interface) (i : ℕ) → IsOf db J x book interface → (at_place : IsAt J (ifaces_of J) i other)
+    → IsBeside db J x at_place.iface book interface other
+beside_at db J x book interface other i is at_place = record {
   of = is;
   other_there = (i, at_place.within, sym at_place.here);
   other_is = at_place.is;
 }
 
 -- what is kept of the interface and of its radio's book
-of_among : (db : List Domain) (J : Journal) (x : Iface) (port : Port) (ports : List Port) (radio : Radio) → IsAmong db J x port ports radio → IsOf db J x radio.book port
-of_among db J x port ports radio is = record {
+of_among : (db : List Domain) (J : Journal) (x : Iface) (interface : Interface) (interfaces : List Interface) (radio : Radio) → IsAmong db J x interface interfaces radio → IsOf db J x radio.book interface
+of_among db J x interface interfaces radio is = record {
   due = is.due;
   there = is.there;
-  port_is = is.port_is;
+  interface_is = is.interface_is;
   channels = map (λ c. c.khz) radio.chans.chans;
   book_is = is.radio_is.book;
 }
 
--- so a walk over one port more still gives all
-pub walk_on : (db : List Domain) (J : Journal) (x : Iface) (port : Port) (ports : List Port) (radio : Radio) (other : Port) (i : ℕ) (found all : List ChanDef) (o : Option ChanDef)
-    → IsAmong db J x port ports radio → i < length ports → other ≡ get_or ports i other → ((y : Iface) → IsBeside db J x y radio.book port other → o ≡ channel_beside J x y)
+-- so a walk over one interface more still gives all
+pub walk_on : (db : List Domain) (J : Journal) (x : Iface) (interface : Interface) (interfaces : List Interface) (radio : Radio) (other : Interface) (i : ℕ) (found all : List ChanDef) (o : Option ChanDef)
+    → IsAmong db J x interface interfaces radio → i < length interfaces → other ≡ get_or interfaces i other → ((y : Iface) → IsBeside db J x y radio.book interface other → o ≡ channel_beside J x y)
     → distinct_from found (beside_all J x (drop i (ifaces_of J))) ≡ all → distinct_from found (cons_option o (beside_all J x (drop (i + 1) (ifaces_of J)))) ≡ all
-walk_on db J x port ports radio other i found all o is within here told so_far =
-    let at_place : IsAt J (ifaces_of J) i other = subst (λ p. IsAt J (ifaces_of J) i p) (sym here) (kept_at J x ports i other is.ports_are within) in
+walk_on db J x interface interfaces radio other i found all o is within here told so_far =
+    let at_place : IsAt J (ifaces_of J) i other = subst (λ p. IsAt J (ifaces_of J) i p) (sym here) (kept_at J x interfaces i other is.interfaces_are within) in
     let y = at_place.iface in
-    let beside = beside_at db J x radio.book port other i (of_among db J x port ports radio is) at_place in
+    let beside = beside_at db J x radio.book interface other i (of_among db J x interface interfaces radio is) at_place in
     sym (walk_more J x y found (ifaces_of J) i o at_place.within at_place.here (told y beside)) ∙ so_far
 
 -- the rest of the walk adds to what is found

@@ -3,12 +3,13 @@ use Rattle.std.proofs.Common.{◌≡◌, ℕ, ◌+◌, List, [], ◌∷◌, ◌+
 use Rattle.std.proofs.lemmas.Bool.{cases_eq, cases_Bool, false≢true}
 use Rattle.rule_tables.specs.declared.domain.Domain.{Domain}
 use Rattle.chan_def.specs.declared.definition.ChanDef.{ChanDef}
-use Rattle.dfs_states.specs.Calls.{Radar, Begin, DropCheck, RegionChanged, now_of as now_of_calls, HasCall, HasBegin, HasRadar as BookHasRadar, IsKept as IsKeptInBook}
-use Rattle.dfs_states.specs.Meaning.{Spares, Counts as CountsInBook}
+use Rattle.dfs_states.specs.Calls.{Radar, Begin, DropCheck, RegionChanged, moment_of as now_of_calls, HasCall, HasBegin, HasRadarCall as BookHasRadar, IsUndropped as IsKeptInBook}
+use Rattle.dfs_states.specs.Meaning.{Spares, CheckCounts as CountsInBook}
 use Rattle.reg_journal.specs.Facts.{Journal, radar_met, check_begun, check_dropped}
-use Rattle.reg_journal.specs.Applicable.{region_of, is_same_region}
+use Rattle.rule_tables.specs.Regions.{is_same_region}
+use Rattle.reg_journal.specs.Applicable.{region_of}
 use Rattle.reg_journal.specs.Present.{radio_of, check_of}
-use Rattle.reg_journal.specs.Due.{AreDue}
+use Rattle.reg_journal.specs.Due.{EachMayFollow}
 use Rattle.reg_journal.specs.Radar.{HasRadar, HasCheck, IsKept, KeepsRegion, Counts}
 use Rattle.reg_core.specs.Calls.{call_of, calls_of}
 use Rattle.reg_core.specs.Slots.{slot_of}
@@ -72,14 +73,14 @@ region_from_book db facts base r keeps newer f between at =
 -- ---- drops
 
 -- a drop in the slot of a check comes after the next beginning there, where one on its interface does
-kept_to_book : (db : List Domain) (facts older : Journal) (i r : ℕ) (chan : ChanDef) (length : ℕ) → AreDue db (facts ++ check_begun i chan length ∷ older)
+kept_to_book : (db : List Domain) (facts older : Journal) (i r : ℕ) (chan : ChanDef) (length : ℕ) → EachMayFollow db (facts ++ check_begun i chan length ∷ older)
     → radio_of older i ≡ Some r → IsKept facts i → IsKeptInBook (calls_over db facts (check_begun i chan length ∷ older) r) (slot_of older i)
 kept_to_book db facts older i r chan length due radio kept newer between at =
     let base : Journal = check_begun i chan length ∷ older in
     let dropped = dropped_in db facts base r (slot_of older i) newer between at in
     let before : Journal = dropped.between ++ base in
-    let due' : AreDue db (check_dropped dropped.iface ∷ before) = due_at db facts dropped.newer dropped.between base (check_dropped dropped.iface) due dropped.at in
-    let due_base : AreDue db base = due_older db dropped.between base due'.1 in
+    let due' : EachMayFollow db (check_dropped dropped.iface ∷ before) = due_at db facts dropped.newer dropped.between base (check_dropped dropped.iface) due dropped.at in
+    let due_base : EachMayFollow db base = due_older db dropped.between base due'.1 in
     let was = home_dropped db before dropped.iface r due' dropped.radio in
     let again : HasCheck dropped.between dropped.iface → HasBegin between (slot_of older i) =
     λ has. subst (λ xs. HasBegin xs (slot_of older i)) (sym dropped.before)
@@ -95,7 +96,7 @@ kept_to_book db facts older i r chan length due radio kept newer between at =
         | inr earlier ↦
             let runs : check_of older dropped.iface ≡ Some was.0 = rw (ne_eqb dropped.iface i other) at earlier in
             let home = running_home db (dropped.between ++ check_begun i chan length ∷ []) older dropped.iface r was.0
-            (subst (AreDue db) (sym (append_assoc dropped.between (check_begun i chan length ∷ []) older)) due'.1)
+            (subst (EachMayFollow db) (sym (append_assoc dropped.between (check_begun i chan length ∷ []) older)) due'.1)
             (subst (λ xs. radio_of xs dropped.iface ≡ Some r) (sym (append_assoc dropped.between (check_begun i chan length ∷ []) older)) dropped.radio) runs in
             let home' = home_begun db older i r chan length due_base radio in
             let radio' = radio_of_home db older dropped.iface r due_base.1 home in
@@ -105,12 +106,12 @@ kept_to_book db facts older i r chan length due radio kept newer between at =
     ]
 
 -- a check that is kept in its slot is kept on its interface
-kept_from_book : (db : List Domain) (facts older : Journal) (i r : ℕ) (chan : ChanDef) (length : ℕ) → AreDue db (facts ++ check_begun i chan length ∷ older)
+kept_from_book : (db : List Domain) (facts older : Journal) (i r : ℕ) (chan : ChanDef) (length : ℕ) → EachMayFollow db (facts ++ check_begun i chan length ∷ older)
     → radio_of older i ≡ Some r → IsKeptInBook (calls_over db facts (check_begun i chan length ∷ older) r) (slot_of older i) → IsKept facts i
 kept_from_book db facts older i r chan length due radio kept newer between at =
     let base : Journal = check_begun i chan length ∷ older in
     let before : Journal = between ++ base in
-    let due' : AreDue db (check_dropped i ∷ before) = due_at db facts newer between base (check_dropped i) due at in
+    let due' : EachMayFollow db (check_dropped i ∷ before) = due_at db facts newer between base (check_dropped i) due at in
     let radio' : radio_of before i ≡ Some r = radio_later db between base i r due'.1 radio in
     let slot : slot_of before i ≡ slot_of older i = slot_later db between base i r due'.1 radio in
     let was = home_dropped db before i r due' radio' in
@@ -122,13 +123,13 @@ kept_from_book db facts older i r chan length due radio kept newer between at =
 -- ---- checks that count
 
 -- both ways
-pub counts_to_book : (db : List Domain) (J : Journal) (r s end : ℕ) → AreDue db J → Counts db J r s end
+pub counts_to_book : (db : List Domain) (J : Journal) (r s end : ℕ) → EachMayFollow db J → Counts db J r s end
     → (slot : ℕ) × CountsInBook (calls_of db J r) s slot end
 counts_to_book db J r s end due counts =
     let i : ℕ = counts.iface in
     let older : Journal = counts.older in
     let base : Journal = check_begun i counts.chan counts.length ∷ older in
-    let due' : AreDue db (counts.newer ++ base) = subst (AreDue db) counts.begun due in
+    let due' : EachMayFollow db (counts.newer ++ base) = subst (EachMayFollow db) counts.begun due in
     let on_radio : radio_of (counts.newer ++ base) i ≡ Some r = subst (λ xs. radio_of xs i ≡ Some r) counts.begun counts.on_radio in
     let radio = radio_begun db counts.newer older i r counts.chan counts.length due' on_radio in (
       slot_of older i,
@@ -149,7 +150,7 @@ counts_to_book db J r s end due counts =
       },
     )
 
-pub counts_from_book : (db : List Domain) (J : Journal) (r s slot end : ℕ) → AreDue db J → CountsInBook (calls_of db J r) s slot end → Counts db J r s end
+pub counts_from_book : (db : List Domain) (J : Journal) (r s slot end : ℕ) → EachMayFollow db J → CountsInBook (calls_of db J r) s slot end → Counts db J r s end
 counts_from_book db J r s slot end due counts =
     let of = from_calls db J r counts.newer (Begin slot counts.chan counts.length) counts.older counts.begun in
     let from = comes_from db of.fact of.older r (Begin slot counts.chan counts.length) of.is in
@@ -157,7 +158,7 @@ counts_from_book db J r s slot end due counts =
     let base : Journal = check_begun i counts.chan counts.length ∷ of.older in
     let begun : J ≡ of.newer ++ base = of.at ∙ ap (λ f. of.newer ++ f ∷ of.older) from.1 in
     let after : counts.newer ≡ calls_over db of.newer base r = of.after ∙ ap (λ f. calls_over db of.newer (f ∷ of.older) r) from.1 in
-    let due' : AreDue db (of.newer ++ base) = subst (AreDue db) begun due in
+    let due' : EachMayFollow db (of.newer ++ base) = subst (EachMayFollow db) begun due in
     let spared : Spares (calls_over db of.newer base r) s (slot_of of.older i) =
     subst (λ xs. Spares xs s (slot_of of.older i)) after (subst (λ n. Spares counts.newer s n) (sym from.3) counts.spared) in
     record {

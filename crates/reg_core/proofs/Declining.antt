@@ -2,8 +2,8 @@
 use Rattle.std.proofs.Common.{◌≡◌, Result, Ok, Err, MatchResult, refl, sym, subst}
 use Rattle.std.specs.Result.{IsErrAnd}
 use Rattle.reg_journal.specs.declared.refusal.Refusal.{Refusal}
-use Rattle.reg_core.specs.Deciding.{Declines, IsReason}
-use Rattle.reg_core.specs.declared.core_parts.Core.{Core}
+use Rattle.reg_core.specs.inner.Deciding.{Declines, IsReason}
+use Rattle.reg_core.specs.declared.core_state.Core.{Core}
 use Rattle.reg_core.specs.declared.declined.Declined.{Declined}
 use Rattle.reg_core.specs.declared.declined.Declined.TheVariants.{Refused, PutOff, OutOfMemory}
 

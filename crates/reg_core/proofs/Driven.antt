@@ -7,13 +7,13 @@ use Rattle.radio_drv.specs.Air.{IsAir, started as put_on_air, stopped as taken_o
 use Rattle.radio_drv.specs.Seen.{Seen}
 use Rattle.radio_drv.specs.declared.on_air.OnAir.{OnAir}
 use Rattle.radio_drv.proofs.Once.{started_once, stopped_once}
-use Rattle.reg_journal.specs.Due.{AreDue}
+use Rattle.reg_journal.specs.Due.{EachMayFollow}
 use Rattle.reg_journal.specs.Facts.{Fact, Journal, started, stopped}
 use Rattle.reg_journal.specs.OnAir.{entry, is_on, on_air_of}
 use Rattle.reg_journal.specs.Present.{Iface, ifaces_of, is_removed}
 use Rattle.reg_core.specs.Entries.{entry_on}
-use Rattle.reg_core.specs.Heard.{AreDriven, Follows, HasOnAir, IsDriven, driver_at}
-use Rattle.reg_core.specs.Told.{OneGoes, Takes}
+use Rattle.reg_core.specs.DriverRows.{AreDriven, Follows, HasOnAir, IsDriven, driver_at}
+use Rattle.reg_core.specs.Told.{OneGoes, DriverTakes}
 use Rattle.reg_core.proofs.AirEntries.{leaves_air, entries_alike, entry_on-left, entry_on-started, entry_on-stopped}
 use Rattle.reg_core.proofs.Airs.{air_at, air_at-started, air_at-stopped}
 use Rattle.reg_core.proofs.Following.{as_many, follows_at, other_driver, removed-left}
@@ -23,7 +23,7 @@ use Rattle.reg_core.proofs.Room.{place_for}
 -- ---- places
 
 -- a driver that hears nothing of a fact which leaves its radio's entries
-place_left : (db : List Domain) (J J' : Journal) (r : ℕ) (place : Option Seen) → AreDue db J → AreDue db J' → is_removed J' r ≡ is_removed J r
+place_left : (db : List Domain) (J J' : Journal) (r : ℕ) (place : Option Seen) → EachMayFollow db J → EachMayFollow db J' → is_removed J' r ≡ is_removed J r
     → ((i : ℕ) → entry_on J' r i ≡ entry_on J r i) → IsDriven J r place → IsDriven J' r place
 place_left db J J' r None due due' gone entries driven = gone ∙ driven
 place_left db J J' r (Some s) due due' gone entries driven = (
@@ -42,8 +42,8 @@ pub record IsChange (J J' : Journal) (r : ℕ) (change : List OnAir → List OnA
   pub keeps : (air : List OnAir) → HasOnAir J r air → IsAir (change air)
 
 -- a driver that is told of the fact
-place_told : (db : List Domain) (J J' : Journal) (r : ℕ) (change : List OnAir → List OnAir) (place place' : Option Seen) → AreDue db J → AreDue db J'
-    → is_removed J' r ≡ is_removed J r → IsChange J J' r change → Takes change place place' → IsDriven J r place → IsDriven J' r place'
+place_told : (db : List Domain) (J J' : Journal) (r : ℕ) (change : List OnAir → List OnAir) (place place' : Option Seen) → EachMayFollow db J → EachMayFollow db J'
+    → is_removed J' r ≡ is_removed J r → IsChange J J' r change → DriverTakes change place place' → IsDriven J r place → IsDriven J' r place'
 place_told db J J' r change None None due due' gone is takes driven = gone ∙ driven
 place_told db J J' r change (Some s) (Some s') due due' gone is takes driven = (
   gone ∙ driven.0,
@@ -59,42 +59,42 @@ place_told db J J' r change (Some s) None due due' gone is takes driven = absurd
 -- ---- all places
 
 -- where nothing on air changes
-pub driven_left : (db : List Domain) (f : Fact) (J : Journal) (heard : List (Option Seen)) → AreDue db (f ∷ J) → leaves_air f ≡ true
-    → AreDriven J heard → AreDriven (f ∷ J) heard
-driven_left db f J heard due leaves driven = record {
+pub driven_left : (db : List Domain) (f : Fact) (J : Journal) (row : List (Option Seen)) → EachMayFollow db (f ∷ J) → leaves_air f ≡ true
+    → AreDriven J row → AreDriven (f ∷ J) row
+driven_left db f J row due leaves driven = record {
   eight = driven.eight;
-  each = λ r below. place_left db J (f ∷ J) r (driver_at heard r) due.1 due (removed-left db f J r due leaves) (λ i. entry_on-left db f J r i due leaves) (driven.each r below);
+  each = λ r below. place_left db J (f ∷ J) r (driver_at row r) due.1 due (removed-left db f J r due leaves) (λ i. entry_on-left db f J r i due leaves) (driven.each r below);
 }
 
 -- where one driver is told
-pub driven_at : (db : List Domain) (J J' : Journal) (q : ℕ) (change : List OnAir → List OnAir) (heard heard' : List (Option Seen)) → AreDue db J → AreDue db J'
+pub driven_at : (db : List Domain) (J J' : Journal) (q : ℕ) (change : List OnAir → List OnAir) (row row' : List (Option Seen)) → EachMayFollow db J → EachMayFollow db J'
     → ((r : ℕ) → is_removed J' r ≡ is_removed J r) → IsChange J J' q change → ((r i : ℕ) → (q ≡ r → ⊥) → entry_on J' r i ≡ entry_on J r i)
-    → OneGoes q (Takes change) heard heard' → AreDriven J heard → AreDriven J' heard'
-driven_at db J J' q change heard heard' due due' gone is others goes driven = record {
-  eight = as_many q (Takes change) heard heard' goes ∙ driven.eight;
+    → OneGoes q (DriverTakes change) row row' → AreDriven J row → AreDriven J' row'
+driven_at db J J' q change row row' due due' gone is others goes driven = record {
+  eight = as_many q (DriverTakes change) row row' goes ∙ driven.eight;
   each = λ r below. elim (cases_eq q r) [
-    | inl same ↦ subst (λ n. IsDriven J' n (driver_at heard' n)) same
-        (place_told db J J' q change (driver_at heard q) (driver_at heard' q) due due' (gone q) is goes.went
-        (subst (λ n. IsDriven J n (driver_at heard n)) (sym same) (driven.each r below)))
-    | inr other ↦ subst (λ o. IsDriven J' r o) (sym (other_driver q r (Takes change) heard heard' goes (λ e. other (sym e))))
-        (place_left db J J' r (driver_at heard r) due due' (gone r) (λ i. others r i other) (driven.each r below))
+    | inl same ↦ subst (λ n. IsDriven J' n (driver_at row' n)) same
+        (place_told db J J' q change (driver_at row q) (driver_at row' q) due due' (gone q) is goes.went
+        (subst (λ n. IsDriven J n (driver_at row n)) (sym same) (driven.each r below)))
+    | inr other ↦ subst (λ o. IsDriven J' r o) (sym (other_driver q r (DriverTakes change) row row' goes (λ e. other (sym e))))
+        (place_left db J J' r (driver_at row r) due due' (gone r) (λ i. others r i other) (driven.each r below))
   ];
 }
 
 -- ---- a start
 
-pub follows_started : (db : List Domain) (J : Journal) (x : Iface) (chan : ChanDef) (power : ℕ) (heard heard' : List (Option Seen)) → AreDue db J
-    → Contains (ifaces_of J) x → OneGoes x.radio (Takes (put_on_air (entry x.index chan power))) heard heard'
-    → Follows J heard → Follows (started x.index chan power ∷ J) heard'
-follows_started db J x chan power heard heard' due there =
-    follows_at J (started x.index chan power ∷ J) x.radio (put_on_air (entry x.index chan power)) heard heard' (λ r. refl)
+pub follows_started : (db : List Domain) (J : Journal) (x : Iface) (chan : ChanDef) (power : ℕ) (row row' : List (Option Seen)) → EachMayFollow db J
+    → Contains (ifaces_of J) x → OneGoes x.radio (DriverTakes (put_on_air (entry x.index chan power))) row row'
+    → Follows J row → Follows (started x.index chan power ∷ J) row'
+follows_started db J x chan power row row' due there =
+    follows_at J (started x.index chan power ∷ J) x.radio (put_on_air (entry x.index chan power)) row row' (λ r. refl)
     (λ r. ap (λ b. if b then put_on_air (entry x.index chan power) (on_air_of J r) else on_air_of J r) (on_its_radio db J x r due there))
 
-pub driven_started : (db : List Domain) (J : Journal) (x : Iface) (chan : ChanDef) (power : ℕ) (heard heard' : List (Option Seen))
-    → AreDue db (started x.index chan power ∷ J) → Contains (ifaces_of J) x → OneGoes x.radio (Takes (put_on_air (entry x.index chan power))) heard heard'
-    → AreDriven J heard → AreDriven (started x.index chan power ∷ J) heard'
-driven_started db J x chan power heard heard' due there =
-    driven_at db J (started x.index chan power ∷ J) x.radio (put_on_air (entry x.index chan power)) heard heard' due.1 due (λ r. refl) (record {
+pub driven_started : (db : List Domain) (J : Journal) (x : Iface) (chan : ChanDef) (power : ℕ) (row row' : List (Option Seen))
+    → EachMayFollow db (started x.index chan power ∷ J) → Contains (ifaces_of J) x → OneGoes x.radio (DriverTakes (put_on_air (entry x.index chan power))) row row'
+    → AreDriven J row → AreDriven (started x.index chan power ∷ J) row'
+driven_started db J x chan power row row' due there =
+    driven_at db J (started x.index chan power ∷ J) x.radio (put_on_air (entry x.index chan power)) row row' due.1 due (λ r. refl) (record {
       moved = λ i o. if x.index == i then Some (entry x.index chan power) else o;
       on_list = λ air i. air_at-started (entry x.index chan power) air i;
       of_fact = λ i. after x.radio i true (on_its_radio db J x x.radio due.1 there ∙ eq-eqb x.radio x.radio refl);
@@ -108,16 +108,16 @@ driven_started db J x chan power heard heard' due there =
 
 -- ---- a stop
 
-pub follows_stopped : (db : List Domain) (J : Journal) (x : Iface) (heard heard' : List (Option Seen)) → AreDue db J
-    → Contains (ifaces_of J) x → OneGoes x.radio (Takes (taken_off x.index)) heard heard' → Follows J heard → Follows (stopped x.index ∷ J) heard'
-follows_stopped db J x heard heard' due there =
-    follows_at J (stopped x.index ∷ J) x.radio (taken_off x.index) heard heard' (λ r. refl)
+pub follows_stopped : (db : List Domain) (J : Journal) (x : Iface) (row row' : List (Option Seen)) → EachMayFollow db J
+    → Contains (ifaces_of J) x → OneGoes x.radio (DriverTakes (taken_off x.index)) row row' → Follows J row → Follows (stopped x.index ∷ J) row'
+follows_stopped db J x row row' due there =
+    follows_at J (stopped x.index ∷ J) x.radio (taken_off x.index) row row' (λ r. refl)
     (λ r. ap (λ b. if b then taken_off x.index (on_air_of J r) else on_air_of J r) (on_its_radio db J x r due there))
 
-pub driven_stopped : (db : List Domain) (J : Journal) (x : Iface) (heard heard' : List (Option Seen)) → AreDue db (stopped x.index ∷ J)
-    → Contains (ifaces_of J) x → OneGoes x.radio (Takes (taken_off x.index)) heard heard' → AreDriven J heard → AreDriven (stopped x.index ∷ J) heard'
-driven_stopped db J x heard heard' due there =
-    driven_at db J (stopped x.index ∷ J) x.radio (taken_off x.index) heard heard' due.1 due (λ r. refl) (record {
+pub driven_stopped : (db : List Domain) (J : Journal) (x : Iface) (row row' : List (Option Seen)) → EachMayFollow db (stopped x.index ∷ J)
+    → Contains (ifaces_of J) x → OneGoes x.radio (DriverTakes (taken_off x.index)) row row' → AreDriven J row → AreDriven (stopped x.index ∷ J) row'
+driven_stopped db J x row row' due there =
+    driven_at db J (stopped x.index ∷ J) x.radio (taken_off x.index) row row' due.1 due (λ r. refl) (record {
       moved = λ i o. if i == x.index then None else o;
       on_list = λ air i. air_at-stopped x.index air i;
       of_fact = λ i. after x.radio i true (on_its_radio db J x x.radio due.1 there ∙ eq-eqb x.radio x.radio refl);

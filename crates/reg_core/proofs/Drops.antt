@@ -5,7 +5,7 @@ use Rattle.rule_tables.specs.declared.domain.Domain.{Domain}
 use Rattle.dfs_states.specs.Calls.{Call, DropCheck, HasCall}
 use Rattle.reg_journal.specs.Facts.{Fact, Journal, check_dropped}
 use Rattle.reg_journal.specs.Present.{Check, radio_of, check_of}
-use Rattle.reg_journal.specs.Due.{AreDue}
+use Rattle.reg_journal.specs.Due.{EachMayFollow}
 use Rattle.reg_journal.specs.Radar.{HasCheck}
 use Rattle.reg_core.specs.Slots.{slot_of}
 use Rattle.reg_core.proofs.Apart.{slots_apart}
@@ -49,7 +49,7 @@ dropped_in db facts base r slot calls between' split =
     }
 
 -- the interface whose check was dropped was there, with that check
-pub home_dropped : (db : List Domain) (J : Journal) (i r : ℕ) → AreDue db (check_dropped i ∷ J) → radio_of J i ≡ Some r
+pub home_dropped : (db : List Domain) (J : Journal) (i r : ℕ) → EachMayFollow db (check_dropped i ∷ J) → radio_of J i ≡ Some r
     → (k : Check) × (check_of J i ≡ Some k) × (home_of J i ≡ Some r)
 home_dropped db J i r due radio =
     let check = some_value (check_of J i) due.0 in
@@ -57,11 +57,11 @@ home_dropped db J i r due radio =
     (check.0, check.1, home_back db [] J i home.0 r due.1 home.1 radio)
 
 -- a drop on an interface is one in its slot
-pub drop_of_drop : (db : List Domain) (facts base : Journal) (i r : ℕ) → AreDue db (facts ++ base) → radio_of base i ≡ Some r
+pub drop_of_drop : (db : List Domain) (facts base : Journal) (i r : ℕ) → EachMayFollow db (facts ++ base) → radio_of base i ≡ Some r
     → HasDrop facts i → HasCall (calls_over db facts base r) (DropCheck (slot_of base i))
 drop_of_drop db facts base i r due radio has =
     let before : Journal = has.older ++ base in
-    let due' : AreDue db before = (due_at db facts has.newer has.older base (check_dropped i) due has.dropped).1 in
+    let due' : EachMayFollow db before = (due_at db facts has.newer has.older base (check_dropped i) due has.dropped).1 in
     let slots : slot_of before i ≡ slot_of base i = slot_later db has.older base i r due' radio in
     subst (λ n. HasCall (calls_over db facts base r) (DropCheck n)) slots (record {
       newer = calls_over db has.newer (check_dropped i ∷ before) r;
@@ -71,15 +71,15 @@ drop_of_drop db facts base i r due radio has =
     })
 
 -- a check that was dropped in the slot of a running one, since that one began and none after it, is on the same interface
-pub dropped_again : (db : List Domain) (facts base : Journal) (i r : ℕ) (k : Check) → AreDue db (facts ++ base) → radio_of base i ≡ Some r
+pub dropped_again : (db : List Domain) (facts base : Journal) (i r : ℕ) (k : Check) → EachMayFollow db (facts ++ base) → radio_of base i ≡ Some r
     → check_of (facts ++ base) i ≡ Some k → (HasCheck facts i → ⊥) → HasCall (calls_over db facts base r) (DropCheck (slot_of base i)) → HasDrop facts i
 dropped_again db facts base i r k due radio check last has =
     let drop = dropped_in db facts base r (slot_of base i) has.newer has.older has.at in
     let fact : Fact = check_dropped drop.iface in
     let before : Journal = drop.between ++ base in
     let whole = whole_at facts drop.newer drop.between base fact drop.at in
-    let due' : AreDue db (drop.newer ++ fact ∷ before) = subst (AreDue db) whole due in
-    let due_drop : AreDue db (fact ∷ before) = due_older db drop.newer (fact ∷ before) due' in
+    let due' : EachMayFollow db (drop.newer ++ fact ∷ before) = subst (EachMayFollow db) whole due in
+    let due_drop : EachMayFollow db (fact ∷ before) = due_older db drop.newer (fact ∷ before) due' in
     elim (cases_eq drop.iface i) [
       | inl same ↦ this drop.newer drop.iface drop.between drop.at same
       | inr other ↦ elim (check_before db drop.newer (fact ∷ before) i k due' (subst (λ xs. check_of xs i ≡ Some k) whole check)) [

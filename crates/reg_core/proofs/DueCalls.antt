@@ -2,11 +2,11 @@
 use Rattle.std.proofs.Common.{ℕ, ◌+◌, ◌==◌, ◌≤◌, List, [], ◌∷◌, subst, sym}
 use Rattle.rule_tables.specs.declared.domain.Domain.{Domain}
 use Rattle.dfs_states.specs.Calls.{Radar, Begin, DropCheck}
-use Rattle.dfs_states.specs.Meaning.{AreDue as AreDueCalls}
+use Rattle.dfs_states.specs.Meaning.{EachMayBeCalled as AreDueCalls}
 use Rattle.reg_journal.specs.Facts.{Journal, moment_is, radio_added, radio_removed, hinted, radar_met, check_begun, check_dropped}
 use Rattle.reg_journal.specs.OnAir.{is_on}
 use Rattle.reg_journal.specs.Present.{check_of}
-use Rattle.reg_journal.specs.Due.{AreDue}
+use Rattle.reg_journal.specs.Due.{EachMayFollow}
 use Rattle.reg_core.specs.Calls.{calls_of}
 use Rattle.reg_core.specs.Slots.{slot_of}
 use Rattle.reg_core.proofs.Begins.{home_begun}
@@ -16,7 +16,7 @@ use Rattle.reg_core.proofs.Over.{where_pushed, region_pushed}
 use Rattle.reg_core.proofs.Running.{calls-now, runs_of_check, idle_of_none}
 
 -- each call came where it might
-pub due_calls : (db : List Domain) (J : Journal) (r : ℕ) → AreDue db J → AreDueCalls (calls_of db J r)
+pub due_calls : (db : List Domain) (J : Journal) (r : ℕ) → EachMayFollow db J → AreDueCalls (calls_of db J r)
 due_calls db [] r due = tt
 due_calls db (moment_is moment ∷ J) r due = ((subst (λ n. n ≤ moment) (sym (calls-now db J r)) due.0.0, due.0.1), due_calls db J r due.1)
 due_calls db (radar_met q chan ∷ J) r due =

@@ -9,8 +9,8 @@ use Rattle.rule_tables.specs.Code.{key}
 use Rattle.rule_tables.specs.Databases.{HasCode, IsDb, IsDomain}
 use Rattle.rule_tables.specs.declared.code.Alpha2.{Alpha2}
 use Rattle.rule_tables.specs.declared.domain.Domain.{Domain}
-use Rattle.reg_hints.specs.Table.{is_same_code}
-use Rattle.reg_core.specs.TableRules.{AreTableRules}
+use Rattle.rule_tables.specs.Code.{is_same_code}
+use Rattle.reg_core.specs.inner.TableRules.{AreTableRules}
 
 same_itself : (one other : Alpha2) → one ≡ other → is_same_code one other ≡ true
 same_itself one other is = search rules

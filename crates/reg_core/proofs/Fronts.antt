@@ -11,7 +11,7 @@ use Rattle.rule_intersect.specs.Tables.{HasRows, HasFewRows, Joined, IsTooMany}
 use Rattle.rule_intersect.specs.declared.fault.ResolveFault.{ResolveFault}
 use Rattle.rule_intersect.specs.declared.fault.ResolveFault.TheVariants.{TooManyRows, OutOfMemory}
 use Rattle.reg_core.proofs.Taken.{take_got, take_to_end}
-use Rattle.reg_core.specs.Making.{IsMade, IsMadeFault, IsMadeSoFar}
+use Rattle.reg_core.specs.inner.Making.{IsMade, IsMadeFault, IsMadeSoFar}
 use Rattle.reg_journal.specs.Applicable.{or_nothing}
 
 -- a front with too many rows is the whole list's too

@@ -6,7 +6,7 @@ use Rattle.rule_tables.specs.declared.domain.Domain.{Domain}
 use Rattle.rule_intersect.specs.Tables.{IsTableOf, Joined}
 use Rattle.rule_intersect.specs.declared.fault.ResolveFault.{ResolveFault}
 use Rattle.rule_intersect.specs.declared.fault.ResolveFault.TheVariants.{TooManyRows, OutOfMemory}
-use Rattle.reg_hints.specs.Table.{Hinted, IsOneTooMany, State, Treated, after}
+use Rattle.reg_hints.specs.Table.{Hinted, IsOneTooMany, State, Treated, after_hint}
 use Rattle.reg_hints.specs.declared.hint.Hint.{Hint}
 use Rattle.reg_journal.specs.Applicable.{find_domain, hints_of}
 use Rattle.reg_journal.specs.Causes.{IsFree}
@@ -14,16 +14,16 @@ use Rattle.reg_journal.specs.Facts.{Journal, hinted}
 use Rattle.reg_journal.specs.Refusals.{AddsFifthCode, HintCauses, IsTooLongAt, RowCauses, all_lists}
 use Rattle.reg_journal.specs.declared.refusal.Refusal.TheVariants.{NoCountry, TooManyDomains}
 use Rattle.reg_journal.proofs.Granting.{free-before, free-where}
-use Rattle.reg_core.specs.Deciding.{IsReason}
-use Rattle.reg_core.specs.Hinting.{IsNewTable, IsRowsFault, lists_after}
+use Rattle.reg_core.specs.inner.Deciding.{IsReason}
+use Rattle.reg_core.specs.inner.Hinting.{IsNewTable, IsRowsFault, lists_after}
 use Rattle.reg_core.specs.Kept.{KeepsRadios}
-use Rattle.reg_core.specs.Lists.{global_by}
-use Rattle.reg_core.specs.Outcomes.{AreHintTables}
+use Rattle.reg_core.specs.inner.Lists.{global_by}
+use Rattle.reg_core.specs.inner.Outcomes.{AreHintTables}
 use Rattle.reg_core.specs.declared.declined.Declined.{Declined}
 use Rattle.reg_core.specs.declared.declined.Declined.TheVariants.{Refused, PutOff, OutOfMemory as NoMemory}
 use Rattle.reg_core.specs.declared.hint_outcomes.HintTables.{HintTables}
-use Rattle.reg_core.specs.declared.radio.RadioSlot.{RadioSlot}
-use Rattle.reg_core.specs.declared.radio.RadioSlot.TheVariants.{Free, Removed, There}
+use Rattle.reg_core.specs.declared.radio.RadioPlace.{RadioPlace}
+use Rattle.reg_core.specs.declared.radio.RadioPlace.TheVariants.{Free, Removed, There}
 use Rattle.reg_core.proofs.AllLists.{lists_of_radios}
 use Rattle.reg_core.proofs.RowRefusals.{later_too_long, not_too_long}
 
@@ -37,37 +37,37 @@ also_not_too_long : (ds : List Domain) (table : Joined) (lists : List (List Doma
 also_not_too_long ds table lists is none zero long = not_too_long ds table lists is long
 also_not_too_long ds table lists is none (suc k) long = none k long
 
-with_tables : (db : List Domain) (hints : State) (hint : Hint) (slots : List RadioSlot) (r : ℕ)
-    → ((k : ℕ) → k < length slots → (table : Option Joined) × IsNewTable db hints hint (r + k) (get_or slots k Free) table) → NoneTooLong (lists_after db hints hint r slots)
+with_tables : (db : List Domain) (hints : State) (hint : Hint) (places : List RadioPlace) (r : ℕ)
+    → ((k : ℕ) → k < length places → (table : Option Joined) × IsNewTable db hints hint (r + k) (get_or places k Free) table) → NoneTooLong (lists_after db hints hint r places)
 with_tables db hints hint [] r each = none_of_none
   where
     none_of_none : NoneTooLong []
     none_of_none k (ds, at, long) = absurd (none-some ds at)
-with_tables db hints hint (slot ∷ slots) r each =
+with_tables db hints hint (place ∷ places) r each =
     let here = each 0 (omega arith) in
-    at_place slot here.0 (subst (λ n. IsNewTable db hints hint n slot here.0) (add-zero r) here.1)
-    (with_tables db hints hint slots (r + 1) (λ k below.
+    at_place place here.0 (subst (λ n. IsNewTable db hints hint n place here.0) (add-zero r) here.1)
+    (with_tables db hints hint places (r + 1) (λ k below.
     let later = each (suc k) (omega (arith, below)) in
-    (later.0, subst (λ n. IsNewTable db hints hint n (get_or slots k Free) later.0) (moved k) later.1)))
+    (later.0, subst (λ n. IsNewTable db hints hint n (get_or places k Free) later.0) (moved k) later.1)))
   where
     moved : (k : ℕ) → r + suc k ≡ r + 1 + k
     moved k = omega arith
 
-    at_place : (slot : RadioSlot) (table : Option Joined) → IsNewTable db hints hint r slot table → NoneTooLong (lists_after db hints hint (r + 1) slots)
-        → NoneTooLong (lists_after db hints hint r (slot ∷ slots))
+    at_place : (place : RadioPlace) (table : Option Joined) → IsNewTable db hints hint r place table → NoneTooLong (lists_after db hints hint (r + 1) places)
+        → NoneTooLong (lists_after db hints hint r (place ∷ places))
     at_place Free table is rest = rest
     at_place Removed table is rest = rest
     at_place (There radio) None is rest = absurd is
     at_place (There radio) (Some table) is rest = also_not_too_long _ table _ is rest
 
-free_of_rows : (db : List Domain) (hints : State) (hint : Hint) (slots : List RadioSlot) (tables : HintTables) → AreHintTables db hints hint slots tables
-    → IsFree (RowCauses (global_by db hints ∷ lists_after db hints hint 0 slots))
-free_of_rows db hints hint slots tables are e cause =
-    also_not_too_long (global_by db hints) tables.global (lists_after db hints hint 0 slots) are.global (with_tables db hints hint slots 0 each) cause.0 cause.1.here
+free_of_rows : (db : List Domain) (hints : State) (hint : Hint) (places : List RadioPlace) (tables : HintTables) → AreHintTables db hints hint places tables
+    → IsFree (RowCauses (global_by db hints ∷ lists_after db hints hint 0 places))
+free_of_rows db hints hint places tables are e cause =
+    also_not_too_long (global_by db hints) tables.global (lists_after db hints hint 0 places) are.global (with_tables db hints hint places 0 each) cause.0 cause.1.here
   where
-    each : (k : ℕ) → k < length slots → (table : Option Joined) × IsNewTable db hints hint (0 + k) (get_or slots k Free) table
+    each : (k : ℕ) → k < length places → (table : Option Joined) × IsNewTable db hints hint (0 + k) (get_or places k Free) table
     each k below =
-        (get_or tables.radios.items k None, subst (λ n. IsNewTable db hints hint n (get_or slots k Free) (get_or tables.radios.items k None)) (sym (zero-add k)) (are.radios.each k below))
+        (get_or tables.radios.items k None, subst (λ n. IsNewTable db hints hint n (get_or places k Free) (get_or tables.radios.items k None)) (sym (zero-add k)) (are.radios.each k below))
 
 -- ---- a hint
 
@@ -79,35 +79,35 @@ pub record MayLead (db : List Domain) (J : Journal) (a : Alpha2) (hint : Hint) (
 
 -- as it is seen from what is kept
 pub may_lead : (db domains : List Domain) (J : Journal) (a : Alpha2) (hint : Hint) (hints led : State) → domains ≡ db → hints ≡ hints_of J → (find_domain domains a ≡ None → ⊥)
-    → (IsOneTooMany hints hint → ⊥) → led ≡ after hint hints → MayLead db J a hint led
+    → (IsOneTooMany hints hint → ⊥) → led ≡ after_hint hint hints → MayLead db J a hint led
 may_lead db domains J a hint hints led db_is hints_are known few led_is = record {
   known = subst (λ ds. find_domain ds a ≡ None → ⊥) db_is known;
   few = subst (λ s. IsOneTooMany s hint → ⊥) hints_are few;
-  led_is = led_is ∙ ap (after hint) hints_are;
+  led_is = led_is ∙ ap (after_hint hint) hints_are;
 }
 
 -- the lists are those that the journal says the hint may change
-lists_after_hint : (db : List Domain) (J : Journal) (hint : Hint) (led : State) (slots : List RadioSlot) → length slots ≡ 8 → KeepsRadios db J slots
-    → led ≡ hints_of (hinted (Treated hint) ∷ J) → global_by db led ∷ lists_after db led hint 0 slots ≡ all_lists db (hinted (Treated hint) ∷ J)
-lists_after_hint db J hint led slots eight kept led_is =
-    ap₂ (λ ds lists. ds ∷ lists) (ap (global_by db) led_is) (lists_of_radios db J hint led slots eight kept (sym led_is))
+lists_after_hint : (db : List Domain) (J : Journal) (hint : Hint) (led : State) (places : List RadioPlace) → length places ≡ 8 → KeepsRadios db J places
+    → led ≡ hints_of (hinted (Treated hint) ∷ J) → global_by db led ∷ lists_after db led hint 0 places ≡ all_lists db (hinted (Treated hint) ∷ J)
+lists_after_hint db J hint led places eight kept led_is =
+    ap₂ (λ ds lists. ds ∷ lists) (ap (global_by db) led_is) (lists_of_radios db J hint led places eight kept (sym led_is))
 
 -- where all lists have tables, nothing speaks against it
-pub free_of_tables : (db : List Domain) (J : Journal) (a : Alpha2) (hint : Hint) (led : State) (slots : List RadioSlot) (tables : HintTables) → MayLead db J a hint led
-    → length slots ≡ 8 → KeepsRadios db J slots → AreHintTables db led hint slots tables → IsFree (HintCauses db J a (Treated hint))
-free_of_tables db J a hint led slots tables may eight kept are =
+pub free_of_tables : (db : List Domain) (J : Journal) (a : Alpha2) (hint : Hint) (led : State) (places : List RadioPlace) (tables : HintTables) → MayLead db J a hint led
+    → length places ≡ 8 → KeepsRadios db J places → AreHintTables db led hint places tables → IsFree (HintCauses db J a (Treated hint))
+free_of_tables db J a hint led places tables may eight kept are =
     free-before _ _ (free-where _ _ may.known)
     (free-before _ _ (free-where _ _ may.few)
-    (subst (λ lists. IsFree (RowCauses lists)) (lists_after_hint db J hint led slots eight kept may.led_is) (free_of_rows db led hint slots tables are)))
+    (subst (λ lists. IsFree (RowCauses lists)) (lists_after_hint db J hint led places eight kept may.led_is) (free_of_rows db led hint places tables are)))
 
 -- and else the rows do
-pub reason_of_rows : (db : List Domain) (J : Journal) (a : Alpha2) (hint : Hint) (led : State) (slots : List RadioSlot) (d : Declined) → MayLead db J a hint led
-    → length slots ≡ 8 → KeepsRadios db J slots → IsReason (RowCauses (global_by db led ∷ lists_after db led hint 0 slots)) ⊥ d
+pub reason_of_rows : (db : List Domain) (J : Journal) (a : Alpha2) (hint : Hint) (led : State) (places : List RadioPlace) (d : Declined) → MayLead db J a hint led
+    → length places ≡ 8 → KeepsRadios db J places → IsReason (RowCauses (global_by db led ∷ lists_after db led hint 0 places)) ⊥ d
     → IsReason (HintCauses db J a (Treated hint)) ⊥ d
-reason_of_rows db J a hint led slots (Refused e) may eight kept cause =
-    inr (free-where _ _ may.known, inr (free-where _ _ may.few, subst (λ lists. RowCauses lists e) (lists_after_hint db J hint led slots eight kept may.led_is) cause))
-reason_of_rows db J a hint led slots PutOff may eight kept off = off
-reason_of_rows db J a hint led slots NoMemory may eight kept reason = tt
+reason_of_rows db J a hint led places (Refused e) may eight kept cause =
+    inr (free-where _ _ may.known, inr (free-where _ _ may.few, subst (λ lists. RowCauses lists e) (lists_after_hint db J hint led places eight kept may.led_is) cause))
+reason_of_rows db J a hint led places PutOff may eight kept off = off
+reason_of_rows db J a hint led places NoMemory may eight kept reason = tt
 
 -- ---- a hint that nothing speaks against
 
@@ -129,5 +129,5 @@ no_fifth_code db J a hint free many = free TooManyDomains (inr (free-where _ _ (
 
 pub rows_after_global : (ds : List Domain) (table : Joined) (lists : List (List Domain)) (fault : ResolveFault) → IsTableOf ds table → IsRowsFault lists fault
     → IsRowsFault (ds ∷ lists) fault
-rows_after_global ds table lists (TooManyRows after rows) is cause = later_too_long ds table lists _ is cause
+rows_after_global ds table lists (TooManyRows after_hint rows) is cause = later_too_long ds table lists _ is cause
 rows_after_global ds table lists OutOfMemory is cause = tt

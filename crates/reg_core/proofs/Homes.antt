@@ -6,8 +6,8 @@ use Rattle.rule_tables.specs.declared.domain.Domain.{Domain}
 use Rattle.chan_def.specs.declared.kind.Kind.{Kind}
 use Rattle.chan_flags.specs.declared.verdict.PowerSetting.{PowerSetting}
 use Rattle.reg_journal.specs.Facts.{Fact, Journal, made, ended, typed, set_to}
-use Rattle.reg_journal.specs.Present.{Iface, fresh, with_kind, with_setting, is_apart, ifaces_of, made_of, radio_of}
-use Rattle.reg_journal.specs.Due.{AreDue}
+use Rattle.reg_journal.specs.Present.{Iface, new_iface, with_kind, with_setting, is_apart, ifaces_of, made_of, radio_of}
+use Rattle.reg_journal.specs.Due.{EachMayFollow}
 
 -- the radio of the first interface of this index
 abbrev pub home_in : List Iface → ℕ → Option ℕ
@@ -96,7 +96,7 @@ home-set xs i j setting = home_in-map (with_setting j setting) (index-with_setti
 -- an interface that is there was there, or has just been made
 pub home_cases : (f : Fact) (J : Journal) (i r : ℕ) → home_of (f ∷ J) i ≡ Some r
     → (home_of J i ≡ Some r) ⊎ ((name : List ℕ) × (kind : Kind) × (f ≡ made i name r kind))
-home_cases (made j name q kind) J i r is = elim (home_in-last (ifaces_of J) (fresh j name q kind) i r is) [
+home_cases (made j name q kind) J i r is = elim (home_in-last (ifaces_of J) (new_iface j name q kind) i r is) [
   | inl was ↦ inl was
   | inr new ↦ inr (name, kind, same j i q r new.0 new.1)
 ]
@@ -113,14 +113,14 @@ home_cases f J i r is = inl is
 
 -- an interface stays until it ends
 pub home_stays : (f : Fact) (J : Journal) (i r : ℕ) → (f ≡ ended i → ⊥) → home_of J i ≡ Some r → home_of (f ∷ J) i ≡ Some r
-home_stays (made j name q kind) J i r last is = home_in-append (ifaces_of J) (fresh j name q kind ∷ []) i r is
+home_stays (made j name q kind) J i r last is = home_in-append (ifaces_of J) (new_iface j name q kind ∷ []) i r is
 home_stays (ended j) J i r last is = home_in-apart (ifaces_of J) i j (λ same. last (ap (λ n. ended n) (sym same))) ∙ is
 home_stays (typed j kind) J i r last is = home-typed (ifaces_of J) i j kind ∙ is
 home_stays (set_to j setting) J i r last is = home-set (ifaces_of J) i j setting ∙ is
 home_stays f J i r last is = is
 
 -- an index that was given is at most the number of those made
-pub radio_given : (db : List Domain) (J : Journal) (i r : ℕ) → AreDue db J → radio_of J i ≡ Some r → i ≤ made_of J
+pub radio_given : (db : List Domain) (J : Journal) (i r : ℕ) → EachMayFollow db J → radio_of J i ≡ Some r → i ≤ made_of J
 radio_given db [] i r due is = absurd (none-some r is)
 radio_given db (made j name q kind ∷ J) i r due is =
     let next : j ≡ made_of J + 1 = due.0.0 in
@@ -131,11 +131,11 @@ radio_given db (made j name q kind ∷ J) i r due is =
 radio_given db (f ∷ J) i r due is = radio_given db J i r due.1 is
 
 -- an interface that is there was made on its radio
-pub radio_of_home : (db : List Domain) (J : Journal) (i r : ℕ) → AreDue db J → home_of J i ≡ Some r → radio_of J i ≡ Some r
+pub radio_of_home : (db : List Domain) (J : Journal) (i r : ℕ) → EachMayFollow db J → home_of J i ≡ Some r → radio_of J i ≡ Some r
 radio_of_home db [] i r due is = absurd (none-some r is)
 radio_of_home db (made j name q kind ∷ J) i r due is =
     let next : j ≡ made_of J + 1 = due.0.0 in
-    elim (home_in-last (ifaces_of J) (fresh j name q kind) i r is) [
+    elim (home_in-last (ifaces_of J) (new_iface j name q kind) i r is) [
       | inl was ↦
           let radio = radio_of_home db J i r due.1 was in
           let below = radio_given db J i r due.1 radio in
@@ -148,7 +148,7 @@ radio_of_home db (f ∷ J) i r due is = elim (home_cases f J i r is) [
 ]
 
 -- the next index is that of no interface
-pub none_next : (db : List Domain) (J : Journal) (i r : ℕ) → AreDue db J → i ≡ made_of J + 1 → home_of J i ≡ Some r → ⊥
+pub none_next : (db : List Domain) (J : Journal) (i r : ℕ) → EachMayFollow db J → i ≡ made_of J + 1 → home_of J i ≡ Some r → ⊥
 none_next db J i r due next home =
     let below = radio_given db J i r due (radio_of_home db J i r due home) in
     absurd (omega arith)

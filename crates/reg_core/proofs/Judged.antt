@@ -13,7 +13,7 @@ use Rattle.chan_flags.specs.declared.verdict.Verdict.TheVariants.{Fits, Refused}
 use Rattle.chan_flags.proofs.Granted.{granting_from_verdict, verdict_from_granting}
 use Rattle.reg_journal.specs.Applicable.{applies}
 use Rattle.reg_journal.specs.Causes.{◌before◌, IsFree, SomeComes}
-use Rattle.reg_journal.specs.Due.{AreDue}
+use Rattle.reg_journal.specs.Due.{EachMayFollow}
 use Rattle.reg_journal.specs.Facts.{Journal}
 use Rattle.reg_journal.specs.Granted.{IsGranted, IsPermitted}
 use Rattle.reg_journal.specs.Permits.{BarsOperation, EndsOperation, LacksChannel, LacksCheck, LacksContext, LacksRadarWidth, LacksWidth, MetRadar, RulesForbid, asked_by, channels_beside, distinct}
@@ -22,10 +22,10 @@ use Rattle.reg_journal.specs.declared.refusal.Refusal.{Refusal}
 use Rattle.reg_journal.specs.declared.refusal.Refusal.TheVariants.{RadioLacks, RadioLacksWidth, RadioLacksContext, NoRule, Width as TooNarrow, NoOfdm, NoIr, NoOutdoor}
 use Rattle.reg_journal.proofs.Granting.{free-before, free-where}
 use Rattle.reg_journal.proofs.Verdicts.{HasRadio, refusal_of, verdict_says}
-use Rattle.reg_core.specs.Demands.{AllMeetFor, HasRadarWidth, HasRules}
-use Rattle.reg_core.specs.Judging.{HasVerdict, IsJudged, is_lacking}
+use Rattle.reg_core.specs.inner.Demands.{AllMeetFor, HasRadarWidth, HasRules}
+use Rattle.reg_core.specs.inner.Judging.{HasVerdict, IsJudged, is_lacking}
 use Rattle.reg_core.specs.Kept.{KeepsRadio}
-use Rattle.reg_core.specs.declared.port.Port.{Port}
+use Rattle.reg_core.specs.declared.interface.Interface.{Interface}
 use Rattle.reg_core.specs.declared.radar.Demand.TheVariants.{Clear, Quiet}
 use Rattle.reg_core.specs.declared.radio.Radio.{Radio}
 use Rattle.reg_core.proofs.RadarRefusals.{abilities_kept, free_of_radar, free_of_width}
@@ -33,16 +33,16 @@ use Rattle.reg_core.proofs.RadarRefusals.{abilities_kept, free_of_radar, free_of
 -- ---- verdicts
 
 -- the verdict on what is kept
-pub verdict_kept : (db : List Domain) (J : Journal) (x : Iface) (port : Port) (ports : List Port) (radio : Radio) (indoor : Bool) (c : ChanDef) (v : Verdict)
-    → IsJudged db J x port ports radio indoor → IsVerdict (applies db J x.radio) (asked radio.chans.profile c port.kind indoor port.setting) v → HasVerdict db J x port.kind radio c v
-verdict_kept db J x port ports radio indoor c v is verdict = record {
+pub verdict_kept : (db : List Domain) (J : Journal) (x : Iface) (interface : Interface) (interfaces : List Interface) (radio : Radio) (indoor : Bool) (c : ChanDef) (v : Verdict)
+    → IsJudged db J x interface interfaces radio indoor → IsVerdict (applies db J x.radio) (asked radio.chans.profile c interface.kind indoor interface.setting) v → HasVerdict db J x interface.kind radio c v
+verdict_kept db J x interface interfaces radio indoor c v is verdict = record {
   due = is.among.due;
-  kind_is = ap (λ (p : Port). p.kind) is.among.port_is;
+  kind_is = ap (λ (p : Interface). p.kind) is.among.interface_is;
   radio_is = is.among.radio_is;
   verdict_is =
-      subst (λ (p : Port). IsVerdict (applies db J x.radio) (asked (abilities_of J x.radio) c p.kind (is_indoor J) p.setting) v) is.among.port_is
-      (subst (λ b. IsVerdict (applies db J x.radio) (asked (abilities_of J x.radio) c port.kind b port.setting) v) is.indoor_is
-      (subst (λ a. IsVerdict (applies db J x.radio) (asked a c port.kind indoor port.setting) v) (abilities_kept db J x.radio radio is.among.radio_is) verdict));
+      subst (λ (p : Interface). IsVerdict (applies db J x.radio) (asked (abilities_of J x.radio) c p.kind (is_indoor J) p.setting) v) is.among.interface_is
+      (subst (λ b. IsVerdict (applies db J x.radio) (asked (abilities_of J x.radio) c interface.kind b interface.setting) v) is.indoor_is
+      (subst (λ a. IsVerdict (applies db J x.radio) (asked a c interface.kind indoor interface.setting) v) (abilities_kept db J x.radio radio is.among.radio_is) verdict));
 }
 
 ends_by_rules : (db : List Domain) (J : Journal) (x : Iface) (c : ChanDef) (e : Refusal) → HasRadio db J x c × RulesForbid db J x c e → EndsOperation db J x c e
@@ -89,7 +89,7 @@ has_where db J x c v is has =
 -- ---- what fits, and radar
 
 -- the radio has each subchannel, with its rules
-pub rules_of_fitting : (db : List Domain) (J : Journal) (x : Iface) (radio : Radio) (c : ChanDef) (power ms : ℕ) → AreDue db J → KeepsRadio db J x.radio radio
+pub rules_of_fitting : (db : List Domain) (J : Journal) (x : Iface) (radio : Radio) (c : ChanDef) (power ms : ℕ) → EachMayFollow db J → KeepsRadio db J x.radio radio
     → IsVerdict (applies db J x.radio) (asked_by J x c) (Fits power ms) → HasRules db J x.radio radio c
 rules_of_fitting db J x radio c power ms due keeps is = record {
   due = due;

@@ -9,27 +9,29 @@ use Rattle.chan_flags.specs.Profiles.{IsProfile}
 use Rattle.chan_flags.specs.Records.{AreRecords, Recorded}
 use Rattle.dfs_states.specs.Book.{Book}
 use Rattle.dfs_states.specs.Calls.{Advance, RegionChanged}
-use Rattle.dfs_states.specs.Meaning.{IsDue as IsCallDue}
-use Rattle.dfs_states.specs.StandsFor.{StandsFor as BookStandsFor}
+use Rattle.dfs_states.specs.Meaning.{MayBeCalled as IsCallDue}
+use Rattle.dfs_states.specs.StandsFor.{BookStandsFor}
 use Rattle.reg_hints.specs.Table.{Hinted, Own, State, Treated}
 use Rattle.reg_hints.specs.declared.hint.Hint.{Hint}
 use Rattle.reg_hints.specs.declared.hint.Hint.TheVariants.{User, Driver, Element}
-use Rattle.reg_journal.specs.Applicable.{applies, custom_domains, driver_code_of, hints_of, is_same_region, is_self_managed, own_domain, region_of}
-use Rattle.reg_journal.specs.Due.{IsDue}
+use Rattle.rule_tables.specs.World.{custom_domain}
+use Rattle.rule_tables.specs.Regions.{is_same_region}
+use Rattle.reg_journal.specs.Applicable.{applies, custom_domains, driver_code_of, hints_of, is_self_managed, region_of}
+use Rattle.reg_journal.specs.Due.{MayFollow}
 use Rattle.reg_journal.specs.Facts.{Journal, hinted, moment_is, rules_are}
 use Rattle.reg_journal.specs.Present.{custom_rules_of, no_abilities}
 use Rattle.reg_core.specs.Calls.{calls_of, pushed}
-use Rattle.reg_core.specs.Hinting.{driver_after, list_after}
-use Rattle.reg_core.specs.Kept.{KeepsRadio, KeepsSlot}
-use Rattle.reg_core.specs.Lists.{applies_by, region_by}
+use Rattle.reg_core.specs.inner.Hinting.{driver_after, list_after}
+use Rattle.reg_core.specs.Kept.{KeepsRadio, KeepsPlace}
+use Rattle.reg_core.specs.inner.Lists.{applies_by, region_by}
 use Rattle.reg_core.specs.declared.radio.Radio.{Radio}
-use Rattle.reg_core.specs.declared.radio.RadioSlot.{RadioSlot}
+use Rattle.reg_core.specs.declared.radio.RadioPlace.{RadioPlace}
 use Rattle.reg_core.proofs.NewRadios.{applies_by-same}
 use Rattle.reg_core.proofs.Moments.{now_of-calls}
 
 -- ---- moments
 
-pub advanced : (db : List Domain) (J : Journal) (r now : ℕ) (old : Radio) (book : Book) → KeepsRadio db J r old → IsDue db J (moment_is now)
+pub advanced : (db : List Domain) (J : Journal) (r now : ℕ) (old : Radio) (book : Book) → KeepsRadio db J r old → MayFollow db J (moment_is now)
     → (IsCallDue (calls_of db J r) (Advance now) → BookStandsFor book (map (λ c. c.khz) old.chans.chans) (Advance now ∷ calls_of db J r))
     → KeepsRadio db (moment_is now ∷ J) r (record old { book = book })
 advanced db J r now old book kept due stands =
@@ -46,8 +48,8 @@ advanced db J r now old book kept due stands =
     }
 
 -- what a new moment does to a place
-abbrev pub Advances : ℕ → ℕ → RadioSlot → RadioSlot → Type 0
-Advances now r old new = (db : List Domain) (J : Journal) → KeepsSlot db J r old → IsDue db J (moment_is now) → KeepsSlot db (moment_is now ∷ J) r new
+abbrev pub Advances : ℕ → ℕ → RadioPlace → RadioPlace → Type 0
+Advances now r old new = (db : List Domain) (J : Journal) → KeepsPlace db J r old → MayFollow db J (moment_is now) → KeepsPlace db (moment_is now ∷ J) r new
 
 -- ---- hints
 
@@ -125,17 +127,17 @@ region-after db J r radio hint after kept led =
     ∙ ap (λ d. region_by db after radio.chans.profile.self_managed d) (driver-after db J r radio hint kept)
 
 -- what such a hint does to a place
-abbrev pub Retunes : List Domain → State → State → Hint → ℕ → RadioSlot → RadioSlot → Type 0
-Retunes db before after hint r old new = (J : Journal) → KeepsSlot db J r old → hints_of J ≡ before → hints_of (hinted (Treated hint) ∷ J) ≡ after
-    → KeepsSlot db (hinted (Treated hint) ∷ J) r new
+abbrev pub Retunes : List Domain → State → State → Hint → ℕ → RadioPlace → RadioPlace → Type 0
+Retunes db before after hint r old new = (J : Journal) → KeepsPlace db J r old → hints_of J ≡ before → hints_of (hinted (Treated hint) ∷ J) ≡ after
+    → KeepsPlace db (hinted (Treated hint) ∷ J) r new
 
 -- ---- rules of the radio's own
 
-custom_domains-ruled : (J : Journal) (r : ℕ) (rules : List Rule) → custom_domains (rules_are r rules ∷ J) r ≡ own_domain rules ∷ []
-custom_domains-ruled J r rules = ap (λ b. option_to_list (option_map own_domain (if b then Some rules else custom_rules_of J r))) (eq-eqb r r refl)
+custom_domains-ruled : (J : Journal) (r : ℕ) (rules : List Rule) → custom_domains (rules_are r rules ∷ J) r ≡ custom_domain rules ∷ []
+custom_domains-ruled J r rules = ap (λ b. option_to_list (option_map custom_domain (if b then Some rules else custom_rules_of J r))) (eq-eqb r r refl)
 
 pub applies-ruled : (db : List Domain) (J : Journal) (r : ℕ) (rules : List Rule) (radio : Radio) (hints : State) → KeepsRadio db J r radio → hints_of J ≡ hints
-    → applies db (rules_are r rules ∷ J) r ≡ applies_by db hints radio.chans.profile.self_managed (own_domain rules ∷ []) radio.driver
+    → applies db (rules_are r rules ∷ J) r ≡ applies_by db hints radio.chans.profile.self_managed (custom_domain rules ∷ []) radio.driver
 applies-ruled db J r rules radio hints kept led =
     ap (λ hints. applies_by db hints (is_self_managed J r) (custom_domains (rules_are r rules ∷ J) r) (driver_code_of J r)) led
     ∙ applies_by-same db hints _ _ _ _ _ _ (is_self_managed-kept db J r radio kept) (custom_domains-ruled J r rules) kept.driver

@@ -6,7 +6,7 @@ use Rattle.rule_tables.specs.declared.domain.Domain.{Domain}
 use Rattle.chan_def.specs.declared.definition.ChanDef.{ChanDef}
 use Rattle.reg_journal.specs.Facts.{Fact, Journal, moment_is, ended, check_begun, check_dropped}
 use Rattle.reg_journal.specs.Present.{Check, Iface, now_of, last_check_of, unless_over, check_of, ifaces_of, indexed}
-use Rattle.reg_journal.specs.Due.{AreDue}
+use Rattle.reg_journal.specs.Due.{EachMayFollow}
 use Rattle.reg_journal.specs.Radar.{HasCheck}
 use Rattle.reg_core.proofs.Homes.{home_of, home_found, home_stays}
 use Rattle.reg_core.proofs.Later.{now_later}
@@ -125,7 +125,7 @@ last_before (f ∷ newer) base i k is = elim (last_before newer base i k is) [
 -- ---- the running check
 
 -- the running check began among the newer facts, or it ran before
-pub check_before : (db : List Domain) (newer base : Journal) (i : ℕ) (k : Check) → AreDue db (newer ++ base) → check_of (newer ++ base) i ≡ Some k
+pub check_before : (db : List Domain) (newer base : Journal) (i : ℕ) (k : Check) → EachMayFollow db (newer ++ base) → check_of (newer ++ base) i ≡ Some k
     → HasCheck newer i ⊎ (check_of base i ≡ Some k)
 check_before db newer base i k due is =
     let parts = check_parts (newer ++ base) i k is in
@@ -145,7 +145,7 @@ home_indexed J i is = found (indexed J i) refl
     found (Some x) some = (x.radio, home_found (ifaces_of J) i ∙ ap (λ o. option_map (λ (x : Iface). x.radio) o) some)
 
 -- an interface with a running check is there
-pub check_home : (db : List Domain) (J : Journal) (i : ℕ) (k : Check) → AreDue db J → check_of J i ≡ Some k → (r : ℕ) × (home_of J i ≡ Some r)
+pub check_home : (db : List Domain) (J : Journal) (i : ℕ) (k : Check) → EachMayFollow db J → check_of J i ≡ Some k → (r : ℕ) × (home_of J i ≡ Some r)
 check_home db [] i k due is = absurd (none-some k is)
 check_home db (check_begun j chan length ∷ J) i k due is = elim (cases_eq i j) [
   | inl same ↦ home_indexed J i (subst (λ n. IsSome (indexed J n)) (sym same) due.0.0.0)

@@ -9,7 +9,7 @@ use Rattle.chan_flags.specs.Profiles.{Abilities}
 use Rattle.chan_flags.specs.Verdicts.{asked, Bars, HasWidth, IsBound, NoneBars}
 use Rattle.chan_flags.specs.declared.asked.Obstacle.TheVariants.{Missing, Unruled, Narrow, OfdmBarred, IrBarred, OutdoorBarred}
 use Rattle.reg_journal.specs.Applicable.{applies, region_of}
-use Rattle.reg_journal.specs.Due.{AreDue}
+use Rattle.reg_journal.specs.Due.{EachMayFollow}
 use Rattle.reg_journal.specs.Facts.{Fact, Journal, radar_met, check_begun, check_dropped}
 use Rattle.reg_journal.specs.Granted.{IsPermitted}
 use Rattle.reg_journal.specs.Permits.{asked_by, width_mhz, IsBoundOn}
@@ -45,7 +45,7 @@ leaves-spared db f J r spares indoor = record {
 -- ---- radar
 
 -- a quiet subchannel stays quiet
-pub quiet_stays : (db : List Domain) (f : Fact) (J : Journal) (r s : ℕ) → AreDue db (f ∷ J) → LeavesRadio db f J r → IsQuiet J r s → IsQuiet (f ∷ J) r s
+pub quiet_stays : (db : List Domain) (f : Fact) (J : Journal) (r s : ℕ) → EachMayFollow db (f ∷ J) → LeavesRadio db f J r → IsQuiet J r s → IsQuiet (f ∷ J) r s
 quiet_stays db f J r s due leaves quiet until barred = elim (split_cases f J barred.newer barred.older (radar_met r barred.chan) barred.met) [
   | inl newest ↦ absurd (leaves.unmet barred.chan newest.1)
   | inr (newer, _, met) ↦
@@ -64,7 +64,7 @@ radar_before f facts r s unmet has = elim (split_cases f facts has.newer has.old
 -- ---- checks that stand
 
 -- where a check runs on the interface of one that is over, it began after that one
-begun_again : (db : List Domain) (newer older : Journal) (i : ℕ) (chan : ChanDef) (length : ℕ) (k : Check) → AreDue db (newer ++ check_begun i chan length ∷ older)
+begun_again : (db : List Domain) (newer older : Journal) (i : ℕ) (chan : ChanDef) (length : ℕ) (k : Check) → EachMayFollow db (newer ++ check_begun i chan length ∷ older)
     → now_of older + length ≤ now_of (newer ++ check_begun i chan length ∷ older) → check_of (newer ++ check_begun i chan length ∷ older) i ≡ Some k → HasCheck newer i
 begun_again db newer older i chan length k due over is = elim (check_before db newer (check_begun i chan length ∷ older) i k due is) [
   | inl has ↦ has
@@ -79,19 +79,19 @@ begun_again db newer older i chan length k due over is = elim (check_before db n
 ]
 
 -- a check that stands is kept: only a running one is dropped
-kept_stays : (db : List Domain) (f : Fact) (J : Journal) (r s end : ℕ) → AreDue db (f ∷ J) → (stands : Stands db J r s end)
+kept_stays : (db : List Domain) (f : Fact) (J : Journal) (r s end : ℕ) → EachMayFollow db (f ∷ J) → (stands : Stands db J r s end)
     → IsKept (f ∷ stands.counts.newer) stands.counts.iface
 kept_stays db f J r s end due stands newer between at =
     let c = stands.counts in
     elim (split_cases f c.newer newer between (check_dropped c.iface) at) [
       | inl (_, drops, rest) ↦
-          let dropped : IsSome (check_of J c.iface) = (subst (λ g. AreDue db (g ∷ J)) drops due).0 in
+          let dropped : IsSome (check_of J c.iface) = (subst (λ g. EachMayFollow db (g ∷ J)) drops due).0 in
           let running = some_value (check_of J c.iface) dropped in
           let ends = c.ends in
           let over = stands.over in
           let now = ap now_of c.begun in
           subst (λ xs. HasCheck xs c.iface) rest
-          (begun_again db c.newer c.older c.iface c.chan c.length running.0 (subst (AreDue db) c.begun due.1) (omega (arith, ends, over, now))
+          (begun_again db c.newer c.older c.iface c.chan c.length running.0 (subst (EachMayFollow db) c.begun due.1) (omega (arith, ends, over, now))
           (subst (λ xs. check_of xs c.iface ≡ Some running.0) c.begun running.1))
       | inr (older, _, at') ↦ c.kept older between at'
     ]
@@ -108,7 +108,7 @@ region_stays db f J newer base r at same keeps newer' g between split = elim (sp
 ]
 
 -- a check that stands stays
-pub stands_stays : (db : List Domain) (f : Fact) (J : Journal) (r s end : ℕ) → AreDue db (f ∷ J) → LeavesRadio db f J r → Stands db J r s end
+pub stands_stays : (db : List Domain) (f : Fact) (J : Journal) (r s end : ℕ) → EachMayFollow db (f ∷ J) → LeavesRadio db f J r → Stands db J r s end
     → Stands db (f ∷ J) r s end
 stands_stays db f J r s end due leaves stands =
     let c = stands.counts in
@@ -181,7 +181,7 @@ radar_width_stays : (db : List Domain) (f : Fact) (J : Journal) (r : ℕ) (c : C
     → width_mhz c ≤ (abilities_of (f ∷ J) r).radar_mhz
 radar_width_stays db f J r c leaves has = subst (λ (a : Abilities). width_mhz c ≤ a.radar_mhz) (sym (abilities_stay db f J r leaves)) has
 
-pub permitted_stays : (db : List Domain) (f : Fact) (J : Journal) (x : Iface) (c : ChanDef) (power : ℕ) → AreDue db (f ∷ J) → LeavesRadio db f J x.radio
+pub permitted_stays : (db : List Domain) (f : Fact) (J : Journal) (x : Iface) (c : ChanDef) (power : ℕ) → EachMayFollow db (f ∷ J) → LeavesRadio db f J x.radio
     → IsPermitted db J x c power → IsPermitted db (f ∷ J) x c power
 permitted_stays db f J x c power due leaves may = record {
   fits = (
@@ -199,7 +199,7 @@ permitted_stays db f J x c power due leaves may = record {
       };
 }
 
-pub check_permitted_stays : (db : List Domain) (f : Fact) (J : Journal) (x : Iface) (k : Check) → AreDue db (f ∷ J) → LeavesRadio db f J x.radio
+pub check_permitted_stays : (db : List Domain) (f : Fact) (J : Journal) (x : Iface) (k : Check) → EachMayFollow db (f ∷ J) → LeavesRadio db f J x.radio
     → IsCheckPermitted db J x k → IsCheckPermitted db (f ∷ J) x k
 check_permitted_stays db f J x k due leaves may = record {
   has_width = subst HasWidth (sym (asked_stays db f J x k.chan leaves)) may.has_width;

@@ -37,14 +37,14 @@ pub mod Asked
 pub mod AllLists
 pub mod AtFirst
 pub mod Stands
-pub mod KeptPorts
+pub mod KeptInterfaces
 pub mod Tellings
 pub mod Operating
 pub mod AirEntries
 pub mod Following
 pub mod Room
 pub mod Driven
-pub mod Hearing
+pub mod KeepUp
 pub mod Broadcast
 pub mod Operations
 pub mod Lasting

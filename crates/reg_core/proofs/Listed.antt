@@ -7,9 +7,9 @@ use Rattle.std.proofs.lemmas.Option.{none-some, same_Some}
 use Rattle.freq_range.proofs.Members.{Contains-later, Contains-cases, Contains-nothing}
 use Rattle.rule_tables.specs.declared.domain.Domain.{Domain}
 use Rattle.reg_journal.specs.Facts.{Journal, made, ended, typed, set_to}
-use Rattle.reg_journal.specs.Present.{Iface, fresh, with_kind, with_setting, is_apart, ifaces_of, made_of, indexed, named}
+use Rattle.reg_journal.specs.Present.{Iface, new_iface, with_kind, with_setting, is_apart, ifaces_of, made_of, indexed, named}
 use Rattle.reg_journal.specs.Names.{is_same_name}
-use Rattle.reg_journal.specs.Due.{AreDue}
+use Rattle.reg_journal.specs.Due.{EachMayFollow}
 use Rattle.reg_core.proofs.Homes.{home_of, home_found, index-with_kind, index-with_setting, none_next}
 
 -- ---- look-ups
@@ -86,7 +86,7 @@ pub index_of_indexed : (J : Journal) (i : ℕ) (x : Iface) → indexed J i ≡ S
 index_of_indexed J i x found = found_index (ifaces_of J) i x found
 
 -- no interface has the next index
-none_indexed : (db : List Domain) (J : Journal) (j : ℕ) → AreDue db J → j ≡ made_of J + 1 → indexed J j ≡ None
+none_indexed : (db : List Domain) (J : Journal) (j : ℕ) → EachMayFollow db J → j ≡ made_of J + 1 → indexed J j ≡ None
 none_indexed db J j due next = by (indexed J j) refl
   where
     by : (o : Option Iface) → indexed J j ≡ o → indexed J j ≡ None
@@ -94,12 +94,12 @@ none_indexed db J j due next = by (indexed J j) refl
     by (Some x) found = absurd (none_next db J j x.radio due next (home_of_indexed J j x found))
 
 -- each that is there is found
-pub indexed_listed : (db : List Domain) (J : Journal) (x : Iface) → AreDue db J → Contains (ifaces_of J) x → indexed J x.index ≡ Some x
+pub indexed_listed : (db : List Domain) (J : Journal) (x : Iface) → EachMayFollow db J → Contains (ifaces_of J) x → indexed J x.index ≡ Some x
 indexed_listed db [] x due has = absurd (Contains-nothing x has)
-indexed_listed db (made j name r kind ∷ J) x due has = elim (Contains-push_cases (ifaces_of J) (fresh j name r kind) x has) [
-  | inl was ↦ rw (find-append (λ y. y.index == x.index) (ifaces_of J) (fresh j name r kind ∷ []), indexed_listed db J x due.1 was)
+indexed_listed db (made j name r kind ∷ J) x due has = elim (Contains-push_cases (ifaces_of J) (new_iface j name r kind) x has) [
+  | inl was ↦ rw (find-append (λ y. y.index == x.index) (ifaces_of J) (new_iface j name r kind ∷ []), indexed_listed db J x due.1 was)
   | inr new ↦ subst (λ y. indexed (made j name r kind ∷ J) y.index ≡ Some y) new
-      (rw (find-append (λ y. y.index == j) (ifaces_of J) (fresh j name r kind ∷ []), none_indexed db J j due.1 due.0.0, eq-eqb j j refl))
+      (rw (find-append (λ y. y.index == j) (ifaces_of J) (new_iface j name r kind ∷ []), none_indexed db J j due.1 due.0.0, eq-eqb j j refl))
 ]
 indexed_listed db (ended j ∷ J) x due has =
     let was = Contains-filter (is_apart j) (ifaces_of J) x has in

@@ -1,10 +1,11 @@
 -- The moment of a radio's book is that of the journal.
 use Rattle.std.proofs.Common.{◌≡◌, ℕ, ◌==◌, ◌^◌, ◌≤◌, Bool, true, false, List, [], ◌∷◌, Some, None, if◌then◌else◌, arith, refl, ◌∙◌}
 use Rattle.rule_tables.specs.declared.domain.Domain.{Domain}
-use Rattle.dfs_states.specs.Calls.{Call, Radar, Begin, DropCheck, RegionChanged, now_of as call_moment}
+use Rattle.dfs_states.specs.Calls.{Call, Radar, Begin, DropCheck, RegionChanged, moment_of as call_moment}
 use Rattle.reg_journal.specs.Facts.{Fact, Journal, moment_is, radio_added, radio_removed, hinted, radar_met, check_begun, check_dropped}
-use Rattle.reg_journal.specs.Applicable.{is_same_region, region_of}
-use Rattle.reg_journal.specs.Due.{AreDue}
+use Rattle.rule_tables.specs.Regions.{is_same_region}
+use Rattle.reg_journal.specs.Applicable.{region_of}
+use Rattle.reg_journal.specs.Due.{EachMayFollow}
 use Rattle.reg_journal.specs.OnAir.{is_on}
 use Rattle.reg_journal.specs.Present.{now_of}
 use Rattle.reg_core.specs.Calls.{calls_of, pushed}
@@ -39,7 +40,7 @@ now_of-calls db (radio_removed q ∷ J) r = region_moment db (radio_removed q) J
 now_of-calls db (f ∷ J) r = now_of-calls db J r
 
 -- no moment is after the last one
-pub now_of-small : (db : List Domain) (J : Journal) → AreDue db J → now_of J ≤ 10 ^ 15
+pub now_of-small : (db : List Domain) (J : Journal) → EachMayFollow db J → now_of J ≤ 10 ^ 15
 now_of-small db [] due = omega arith
 now_of-small db (moment_is moment ∷ J) due = due.0.1
 now_of-small db (f ∷ J) due = now_of-small db J due.1

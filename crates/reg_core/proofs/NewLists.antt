@@ -1,4 +1,4 @@
--- The list of a radio with neither rules of its own nor a driver's hint.
+-- The list of a radio with neither custom rules nor a driver's hint.
 use Rattle.std.proofs.Common.{◌≡◌, ◌<◌, Bool, true, false, List, [], ◌∷◌, ◌++◌, length, All, None, arith, rules, refl, sym, subst, ap, ◌∙◌}
 use Rattle.std.proofs.lemmas.List.{append-nil}
 use Rattle.freq_range.specs.Valid.{IsValidRule}
@@ -7,9 +7,10 @@ use Rattle.rule_intersect.specs.Tables.{Joined}
 use Rattle.rule_intersect.proofs.OwnRows.{some_own_rows}
 use Rattle.rule_intersect.proofs.Resolved.{IsTableOf-first}
 use Rattle.reg_hints.specs.Table.{State}
-use Rattle.reg_journal.specs.Applicable.{or_nothing, own_domain}
-use Rattle.reg_core.specs.Lists.{applies_by, global_by}
-use Rattle.reg_core.specs.Making.{HasTable}
+use Rattle.rule_tables.specs.World.{custom_domain}
+use Rattle.reg_journal.specs.Applicable.{or_nothing}
+use Rattle.reg_core.specs.inner.Lists.{applies_by, global_by}
+use Rattle.reg_core.specs.inner.Making.{HasTable}
 
 pub or_nothing-some : (ds : List Domain) → 0 < length ds → or_nothing ds ≡ ds
 or_nothing-some [] some = absurd (omega (arith, some))
@@ -18,11 +19,11 @@ or_nothing-some (d ∷ ds) some = refl
 empty_rules : All IsValidRule []
 empty_rules = search rules
 
-table_of_nothing : HasTable (own_domain [] ∷ [])
+table_of_nothing : HasTable (custom_domain [] ∷ [])
 table_of_nothing =
     let own = some_own_rows [] in
     let table : Joined = record { rows = own.0; domains = 1 } in
-    (table, IsTableOf-first (own_domain []) own.0 empty_rules (omega arith) own.1)
+    (table, IsTableOf-first (custom_domain []) own.0 empty_rules (omega arith) own.1)
 
 pub some_table : (db : List Domain) (hints : State) (self_managed : Bool) → HasTable (global_by db hints) → HasTable (applies_by db hints self_managed [] None)
 some_table db hints true has = table_of_nothing

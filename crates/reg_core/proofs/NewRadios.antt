@@ -9,16 +9,17 @@ use Rattle.chan_flags.specs.Profiles.{Abilities, IsProfile}
 use Rattle.chan_flags.specs.Records.{AreRecords}
 use Rattle.dfs_states.specs.Calls.{Advance, Call}
 use Rattle.dfs_states.specs.Meaning.{AreBlank, IsBlank}
-use Rattle.dfs_states.specs.StandsFor.{StandsFor as BookStandsFor}
+use Rattle.dfs_states.specs.StandsFor.{BookStandsFor}
 use Rattle.dfs_states.proofs.Blank.{blank_alike}
 use Rattle.reg_hints.specs.Table.{State}
-use Rattle.reg_journal.specs.Applicable.{applies, custom_domains, driver_code_of, hints_of, is_self_managed, own_domain}
-use Rattle.reg_journal.specs.Due.{AreDue}
+use Rattle.rule_tables.specs.World.{custom_domain}
+use Rattle.reg_journal.specs.Applicable.{applies, custom_domains, driver_code_of, hints_of, is_self_managed}
+use Rattle.reg_journal.specs.Due.{EachMayFollow}
 use Rattle.reg_journal.specs.Facts.{Journal, radio_added}
 use Rattle.reg_journal.specs.Present.{no_abilities, now_of, profile_of}
 use Rattle.reg_core.specs.Calls.{call_of, calls_of}
 use Rattle.reg_core.specs.Kept.{KeepsRadio}
-use Rattle.reg_core.specs.Lists.{applies_by}
+use Rattle.reg_core.specs.inner.Lists.{applies_by}
 use Rattle.reg_core.specs.declared.radio.Radio.{Radio}
 use Rattle.reg_core.proofs.Moments.{now_of-calls}
 use Rattle.reg_core.proofs.Newcomers.{AreBlank-pushed, AreDue-pushed, blank_calls, custom_rules_of-unused, due_calls, quiet_call}
@@ -41,7 +42,7 @@ blank_moment moment call has = in_one has.newer has.at
     in_one (n ∷ []) at = cc
     in_one (n ∷ m ∷ newer) at = cc
 
-pub added : (db : List Domain) (J : Journal) (r : ℕ) (profile : Abilities) (radio : Radio) → AreDue db (radio_added r profile ∷ J) → driver_code_of J r ≡ None
+pub added : (db : List Domain) (J : Journal) (r : ℕ) (profile : Abilities) (radio : Radio) → EachMayFollow db (radio_added r profile ∷ J) → driver_code_of J r ≡ None
     → radio.chans.profile ≡ profile → radio.custom ≡ None → radio.driver ≡ None
     → IsTableOf (applies_by db (hints_of J) profile.self_managed [] None) radio.table
     → ((ds : List Domain) → IsTableOf ds radio.table → AreRecords ds radio.chans.chans)
@@ -50,7 +51,7 @@ pub added : (db : List Domain) (J : Journal) (r : ℕ) (profile : Abilities) (ra
 added db J r profile radio due no_driver is_profile no_custom no_driver' is_table records book =
     let unused = due.0.1 in
     let no_rules = custom_rules_of-unused db J r due.1 unused in
-    let custom : custom_domains J r ≡ [] = ap (λ o. option_to_list (option_map own_domain o)) no_rules in
+    let custom : custom_domains J r ≡ [] = ap (λ o. option_to_list (option_map custom_domain o)) no_rules in
     let self_managed : is_self_managed (radio_added r profile ∷ J) r ≡ profile.self_managed =
     ap (λ o. (unwrap_or o no_abilities).self_managed) (profile_of-added J r profile) in
     let same : applies db (radio_added r profile ∷ J) r ≡ applies_by db (hints_of J) profile.self_managed [] None =

@@ -4,12 +4,13 @@ use Rattle.std.proofs.lemmas.Bool.{cases_Bool, eqb-true, or_parts}
 use Rattle.std.specs.Option.{option_map_or}
 use Rattle.rule_tables.specs.declared.domain.Domain.{Domain}
 use Rattle.dfs_states.specs.Calls.{Call, Radar, Begin, DropCheck, RegionChanged}
-use Rattle.dfs_states.specs.Meaning.{IsBlank, AreBlank, IsDue as IsCallDue, AreDue as AreCallsDue}
+use Rattle.dfs_states.specs.Meaning.{IsBlank, AreBlank, MayBeCalled as IsCallDue, EachMayBeCalled as AreCallsDue}
 use Rattle.reg_journal.specs.Facts.{Fact, Journal, moment_is, radio_added, radio_removed, rules_are, hinted, radar_met, made, check_begun, check_dropped}
 use Rattle.reg_hints.specs.Table.{Treated, Own}
 use Rattle.reg_hints.specs.declared.hint.Hint.TheVariants.{User, Driver, Element}
-use Rattle.reg_journal.specs.Applicable.{driver_code_of, is_same_region, region_of}
-use Rattle.reg_journal.specs.Due.{IsDue, AreDue}
+use Rattle.rule_tables.specs.Regions.{is_same_region}
+use Rattle.reg_journal.specs.Applicable.{driver_code_of, region_of}
+use Rattle.reg_journal.specs.Due.{MayFollow, EachMayFollow}
 use Rattle.reg_journal.specs.OnAir.{is_on}
 use Rattle.reg_journal.specs.Present.{is_used, profile_of, custom_rules_of, radio_of}
 use Rattle.reg_core.specs.Calls.{call_of, calls_of, pushed}
@@ -48,7 +49,7 @@ another J r q unused there = tells_apart r q (is_another J r q unused there)
 another_asked : (J : Journal) (r q : ℕ) → is_used J r ≡ false → IsSome (profile_of J q) → (q == r) ≡ false
 another_asked J r q unused there = tells_apart q r (λ same. is_another J r q unused there (sym same))
 
-pub custom_rules_of-unused : (db : List Domain) (J : Journal) (r : ℕ) → AreDue db J → is_used J r ≡ false → custom_rules_of J r ≡ None
+pub custom_rules_of-unused : (db : List Domain) (J : Journal) (r : ℕ) → EachMayFollow db J → is_used J r ≡ false → custom_rules_of J r ≡ None
 custom_rules_of-unused db [] r due unused = refl
 custom_rules_of-unused db (radio_added q profile ∷ J) r due unused = custom_rules_of-unused db J r due.1 (or_parts (r == q) (is_used J r) unused).1
 custom_rules_of-unused db (rules_are q rules ∷ J) r due unused =
@@ -56,7 +57,7 @@ custom_rules_of-unused db (rules_are q rules ∷ J) r due unused =
 custom_rules_of-unused db (f ∷ J) r due unused = custom_rules_of-unused db J r due.1 unused
 
 -- no driver has given a hint for it
-pub driver_code_of-unused : (db : List Domain) (J : Journal) (r : ℕ) → AreDue db J → is_used J r ≡ false → driver_code_of J r ≡ None
+pub driver_code_of-unused : (db : List Domain) (J : Journal) (r : ℕ) → EachMayFollow db J → is_used J r ≡ false → driver_code_of J r ≡ None
 driver_code_of-unused db [] r due unused = refl
 driver_code_of-unused db (radio_added q profile ∷ J) r due unused = driver_code_of-unused db J r due.1 (or_parts (r == q) (is_used J r) unused).1
 driver_code_of-unused db (hinted (Own q a) ∷ J) r due unused =
@@ -67,7 +68,7 @@ driver_code_of-unused db (hinted (Treated (User a)) ∷ J) r due unused = driver
 driver_code_of-unused db (hinted (Treated (Element q a deaf)) ∷ J) r due unused = driver_code_of-unused db J r due.1 unused
 driver_code_of-unused db (f ∷ J) r due unused = driver_code_of-unused db J r due.1 unused
 
-pub is_on-unused : (db : List Domain) (J : Journal) (i r : ℕ) → AreDue db J → is_used J r ≡ false → is_on J i r ≡ false
+pub is_on-unused : (db : List Domain) (J : Journal) (i r : ℕ) → EachMayFollow db J → is_used J r ≡ false → is_on J i r ≡ false
 is_on-unused db [] i r due unused = refl
 is_on-unused db (radio_added q profile ∷ J) i r due unused = is_on-unused db J i r due.1 (or_parts (r == q) (is_used J r) unused).1
 is_on-unused db (made j name q kind ∷ J) i r due unused = on_made (i == j) (is_on-unused db J i r due.1 unused) (another_asked J r q unused due.0.3)
@@ -92,7 +93,7 @@ region_quiet : (calls : List Call) (stays : Bool) → IsQuietCall calls (if stay
 region_quiet calls true = tt
 region_quiet calls false = (tt, tt)
 
-pub quiet_call : (db : List Domain) (f : Fact) (J : Journal) (r : ℕ) → AreDue db J → is_used J r ≡ false → IsDue db J f → IsQuietCall (calls_of db J r) (call_of db f J r)
+pub quiet_call : (db : List Domain) (f : Fact) (J : Journal) (r : ℕ) → EachMayFollow db J → is_used J r ≡ false → MayFollow db J f → IsQuietCall (calls_of db J r) (call_of db f J r)
 quiet_call db (moment_is moment) J r are unused due =
     let same = now_of-calls db J r in
     let later = due.0 in
@@ -123,7 +124,7 @@ pub AreDue-pushed : (calls : List Call) (call : Option Call) → IsQuietCall cal
 AreDue-pushed calls None quiet are = are
 AreDue-pushed calls (Some c) quiet are = (quiet.1, are)
 
-pub blank_calls : (db : List Domain) (J : Journal) (r : ℕ) → AreDue db J → is_used J r ≡ false → AreBlank (calls_of db J r)
+pub blank_calls : (db : List Domain) (J : Journal) (r : ℕ) → EachMayFollow db J → is_used J r ≡ false → AreBlank (calls_of db J r)
 blank_calls db [] r are unused = λ call has. none call has.older has.newer has.at
   where
     none : (call : Call) (older newer : List Call) → [] ≡ newer ++ call ∷ older → IsBlank call
@@ -133,7 +134,7 @@ blank_calls db (f ∷ J) r are unused =
     let before = used_before f J r unused in
     AreBlank-pushed (calls_of db J r) (call_of db f J r) (quiet_call db f J r are.1 before are.0) (blank_calls db J r are.1 before)
 
-pub due_calls : (db : List Domain) (J : Journal) (r : ℕ) → AreDue db J → is_used J r ≡ false → AreCallsDue (calls_of db J r)
+pub due_calls : (db : List Domain) (J : Journal) (r : ℕ) → EachMayFollow db J → is_used J r ≡ false → AreCallsDue (calls_of db J r)
 due_calls db [] r are unused = tt
 due_calls db (f ∷ J) r are unused =
     let before = used_before f J r unused in

@@ -4,8 +4,8 @@ use Rattle.std.proofs.lemmas.Bool.{cases_eq, false≢true}
 use Rattle.std.proofs.lemmas.Option.{none-some, same_Some}
 use Rattle.rule_tables.specs.declared.domain.Domain.{Domain}
 use Rattle.reg_journal.specs.Facts.{Journal, radio_added, radio_removed, made}
-use Rattle.reg_journal.specs.Present.{Iface, fresh, ifaces_of, ifaces_on, is_removed, is_used, profile_of}
-use Rattle.reg_journal.specs.Due.{AreDue}
+use Rattle.reg_journal.specs.Present.{Iface, new_iface, ifaces_of, ifaces_on, is_removed, is_used, profile_of}
+use Rattle.reg_journal.specs.Due.{EachMayFollow}
 use Rattle.reg_core.proofs.Homes.{home_cases, home_in, home_in-last, home_of}
 
 -- an interface that is there is one of its radio's
@@ -20,9 +20,9 @@ home_on (x ∷ xs) i r is none = elim (cases_eq x.radio r) [
 ]
 
 -- and the radio is there
-pub home_there : (db : List Domain) (J : Journal) (i r : ℕ) → AreDue db J → home_of J i ≡ Some r → IsSome (profile_of J r)
+pub home_there : (db : List Domain) (J : Journal) (i r : ℕ) → EachMayFollow db J → home_of J i ≡ Some r → IsSome (profile_of J r)
 home_there db [] i r due is = absurd (none-some r is)
-home_there db (made j name q kind ∷ J) i r due is = elim (home_in-last (ifaces_of J) (fresh j name q kind) i r is) [
+home_there db (made j name q kind ∷ J) i r due is = elim (home_in-last (ifaces_of J) (new_iface j name q kind) i r is) [
   | inl was ↦ home_there db J i r due.1 was
   | inr new ↦ subst (λ n. IsSome (profile_of J n)) new.1 due.0.3
 ]
@@ -49,7 +49,7 @@ there_stays J r there = gone (is_used J r) (is_some (profile_of J r)) there
     gone used false is = absurd (false≢true is)
 
 -- and has a small number
-pub there_small : (db : List Domain) (J : Journal) (r : ℕ) → AreDue db J → IsSome (profile_of J r) → r < 8
+pub there_small : (db : List Domain) (J : Journal) (r : ℕ) → EachMayFollow db J → IsSome (profile_of J r) → r < 8
 there_small db [] r due there = absurd (false≢true there)
 there_small db (radio_added q profile ∷ J) r due there = elim (cases_eq r q) [
   | inl same ↦ subst (λ n. n < 8) (sym same) due.0.0

@@ -4,7 +4,7 @@ use Rattle.std.proofs.lemmas.Bool.{cases_eq}
 use Rattle.std.proofs.lemmas.Option.{none-some}
 use Rattle.rule_tables.specs.declared.domain.Domain.{Domain}
 use Rattle.chan_def.specs.declared.definition.ChanDef.{ChanDef}
-use Rattle.reg_journal.specs.Due.{AreDue}
+use Rattle.reg_journal.specs.Due.{EachMayFollow}
 use Rattle.reg_journal.specs.Facts.{Fact, Journal, ended, started, stopped, powered, check_begun}
 use Rattle.reg_journal.specs.Present.{Check, Operation, check_of, indexed, made_of, operation_of}
 use Rattle.reg_core.proofs.Drops.{some_value}
@@ -20,7 +20,7 @@ some_of_property None P is = absurd is
 some_of_property (Some x) P is = refl
 
 -- an interface with an operation is there
-pub operation_home : (db : List Domain) (J : Journal) (i : ℕ) (o : Operation) → AreDue db J → operation_of J i ≡ Some o → (r : ℕ) × (home_of J i ≡ Some r)
+pub operation_home : (db : List Domain) (J : Journal) (i : ℕ) (o : Operation) → EachMayFollow db J → operation_of J i ≡ Some o → (r : ℕ) × (home_of J i ≡ Some r)
 operation_home db [] i o due is = absurd (none-some o is)
 operation_home db (started j chan power ∷ J) i o due is = elim (cases_eq i j) [
   | inl same ↦ home_indexed J i (subst (λ n. IsSome (indexed J n)) (sym same) (some_of_property (indexed J j) _ due.0.0.1))
@@ -49,7 +49,7 @@ abbrev pub BeginsCheck : Fact → ℕ → Type 0
 BeginsCheck f i = (chan : ChanDef) × (length : ℕ) × (f ≡ check_begun i chan length)
 
 -- a running check ran before a fact that begins none
-pub check_ran : (db : List Domain) (f : Fact) (J : Journal) (i : ℕ) (k : Check) → AreDue db (f ∷ J) → (BeginsCheck f i → ⊥) → check_of (f ∷ J) i ≡ Some k
+pub check_ran : (db : List Domain) (f : Fact) (J : Journal) (i : ℕ) (k : Check) → EachMayFollow db (f ∷ J) → (BeginsCheck f i → ⊥) → check_of (f ∷ J) i ≡ Some k
     → check_of J i ≡ Some k
 check_ran db f J i k due other is = elim (check_before db (f ∷ []) J i k due is) [
   | inl has ↦ elim (check_cases f [] i has) [
@@ -60,7 +60,7 @@ check_ran db f J i k due other is = elim (check_before db (f ∷ []) J i k due i
 ]
 
 -- so where none ran before it, none runs after it
-pub no_check_after : (db : List Domain) (f : Fact) (J : Journal) (i : ℕ) → AreDue db (f ∷ J) → (BeginsCheck f i → ⊥) → check_of J i ≡ None
+pub no_check_after : (db : List Domain) (f : Fact) (J : Journal) (i : ℕ) → EachMayFollow db (f ∷ J) → (BeginsCheck f i → ⊥) → check_of J i ≡ None
     → check_of (f ∷ J) i ≡ None
 no_check_after db f J i due other none = by (check_of (f ∷ J) i) refl
   where
@@ -69,7 +69,7 @@ no_check_after db f J i due other none = by (check_of (f ∷ J) i) refl
     by (Some k) is = absurd (none-some k (sym none ∙ check_ran db f J i k due other is))
 
 -- no check runs beside an operation
-pub no_check_beside : (db : List Domain) (J : Journal) (i : ℕ) (o : Operation) → AreDue db J → operation_of J i ≡ Some o → check_of J i ≡ None
+pub no_check_beside : (db : List Domain) (J : Journal) (i : ℕ) (o : Operation) → EachMayFollow db J → operation_of J i ≡ Some o → check_of J i ≡ None
 no_check_beside db [] i o due is = refl
 no_check_beside db (started j chan power ∷ J) i o due is = elim (cases_eq i j) [
   | inl same ↦ ap (check_of J) same ∙ due.0.0.0
@@ -93,14 +93,14 @@ no_check_beside db (f ∷ J) i o due is = no_check_after db f J i due (λ (c, n,
 
 -- ---- indexes that are still to come
 
-pub no_operation_next : (db : List Domain) (J : Journal) (i : ℕ) → AreDue db J → i ≡ made_of J + 1 → operation_of J i ≡ None
+pub no_operation_next : (db : List Domain) (J : Journal) (i : ℕ) → EachMayFollow db J → i ≡ made_of J + 1 → operation_of J i ≡ None
 no_operation_next db J i due next = by (operation_of J i) refl
   where
     by : (o : Option Operation) → operation_of J i ≡ o → operation_of J i ≡ None
     by None is = is
     by (Some o) is = let home = operation_home db J i o due is in absurd (none_next db J i home.0 due next home.1)
 
-pub no_check_next : (db : List Domain) (J : Journal) (i : ℕ) → AreDue db J → i ≡ made_of J + 1 → check_of J i ≡ None
+pub no_check_next : (db : List Domain) (J : Journal) (i : ℕ) → EachMayFollow db J → i ≡ made_of J + 1 → check_of J i ≡ None
 no_check_next db J i due next = by (check_of J i) refl
   where
     by : (o : Option Check) → check_of J i ≡ o → check_of J i ≡ None

@@ -4,7 +4,8 @@ use Rattle.std.proofs.lemmas.Bool.{cond_both}
 use Rattle.rule_tables.specs.declared.domain.Domain.{Domain}
 use Rattle.dfs_states.specs.Calls.{Call, RegionChanged}
 use Rattle.reg_journal.specs.Facts.{Fact, Journal}
-use Rattle.reg_journal.specs.Applicable.{region_of, is_same_region}
+use Rattle.rule_tables.specs.Regions.{is_same_region}
+use Rattle.reg_journal.specs.Applicable.{region_of}
 use Rattle.reg_core.specs.Calls.{region_call, call_of, pushed, calls_of}
 use Rattle.reg_core.proofs.Splits.{split_cases, not_split}
 

@@ -11,7 +11,7 @@ use Rattle.reg_journal.specs.Permits.{LacksCheck, LacksRadarWidth, MetRadar, wid
 use Rattle.reg_journal.specs.Present.{Iface, abilities_of, no_abilities}
 use Rattle.reg_journal.specs.declared.refusal.Refusal.TheVariants.{RadioLacksRadarWidth, Radar, Unchecked}
 use Rattle.reg_journal.proofs.Granting.{free-at_lowest, free-where}
-use Rattle.reg_core.specs.Demands.{AllMeetFor, Fails, HasRadarWidth, IsNarrowEnough, IsTooWide}
+use Rattle.reg_core.specs.inner.Demands.{AllMeetFor, FailsDemand, HasRadarWidth, IsNarrowEnough, IsTooWide}
 use Rattle.reg_core.specs.Kept.{KeepsRadio}
 use Rattle.reg_core.specs.declared.radar.Demand.TheVariants.{Absent, Quiet, Clear}
 use Rattle.reg_core.specs.declared.radio.Radio.{Radio}
@@ -21,7 +21,7 @@ use Rattle.reg_core.specs.declared.radio.Radio.{Radio}
 pub abilities_kept : (db : List Domain) (J : Journal) (r : ℕ) (radio : Radio) → KeepsRadio db J r radio → radio.chans.profile ≡ abilities_of J r
 abilities_kept db J r radio keeps = sym (ap (λ p. unwrap_or p no_abilities) keeps.profile)
 
-pub too_wide : (db : List Domain) (J : Journal) (r mhz s : ℕ) (c : ChanDef) → BarsFirst (Fails db J r Absent) c s → mhz < width_mhz c → IsTooWide db J r mhz c
+pub too_wide : (db : List Domain) (J : Journal) (r mhz s : ℕ) (c : ChanDef) → BarsFirst (FailsDemand db J r Absent) c s → mhz < width_mhz c → IsTooWide db J r mhz c
 too_wide db J r mhz s c first wider = ((s, first.covered, first.here.0), wider)
 
 pub lacks_width : (db : List Domain) (J : Journal) (x : Iface) (radio : Radio) (c : ChanDef) → KeepsRadio db J x.radio radio → IsTrue (initiates x.kind)
@@ -39,7 +39,7 @@ free_of_width db J x c has = free-where _ _ (λ lacks. let narrow = has lacks.0 
 
 -- ---- radar, and checks
 
-pub met_radar : (db : List Domain) (J : Journal) (x : Iface) (c : ChanDef) (s : ℕ) → IsTrue (initiates x.kind) → BarsFirst (Fails db J x.radio Quiet) c s → MetRadar db J x c (Radar s)
+pub met_radar : (db : List Domain) (J : Journal) (x : Iface) (c : ChanDef) (s : ℕ) → IsTrue (initiates x.kind) → BarsFirst (FailsDemand db J x.radio Quiet) c s → MetRadar db J x c (Radar s)
 met_radar db J x c s sends first = (
   s,
   record {
@@ -54,7 +54,7 @@ pub free_of_radar : (db : List Domain) (J : Journal) (x : Iface) (c : ChanDef) �
 free_of_radar db J x c quiet = free-at_lowest _ c _ (λ s covered met. met.2 (quiet met.0 s covered met.1))
 
 -- where all are quiet, what isn't clear is unchecked
-pub lacks_check : (db : List Domain) (J : Journal) (x : Iface) (c : ChanDef) (s : ℕ) → IsTrue (initiates x.kind) → AllMeetFor db J x Quiet c → BarsFirst (Fails db J x.radio Clear) c s
+pub lacks_check : (db : List Domain) (J : Journal) (x : Iface) (c : ChanDef) (s : ℕ) → IsTrue (initiates x.kind) → AllMeetFor db J x Quiet c → BarsFirst (FailsDemand db J x.radio Clear) c s
     → LacksCheck db J x c (Unchecked s)
 lacks_check db J x c s sends quiet first = (
   s,

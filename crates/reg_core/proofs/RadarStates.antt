@@ -6,7 +6,7 @@ use Rattle.rule_tables.specs.declared.domain.Domain.{Domain}
 use Rattle.chan_def.specs.declared.definition.ChanDef.{ChanDef}
 use Rattle.chan_flags.specs.ByRecords.{IsBoundBy}
 use Rattle.chan_flags.specs.declared.record.Chan.{Chan}
-use Rattle.dfs_states.specs.Meaning.{IsAnswer}
+use Rattle.dfs_states.specs.Meaning.{IsBookAnswer}
 use Rattle.dfs_states.specs.declared.dfs.Dfs.{Dfs}
 use Rattle.dfs_states.specs.declared.dfs.Dfs.TheVariants.{Usable, Unavailable, Available}
 use Rattle.reg_journal.specs.Facts.{Journal}
@@ -14,7 +14,7 @@ use Rattle.reg_journal.specs.Granted.{IsClear}
 use Rattle.reg_journal.specs.Permits.{IsBoundOn}
 use Rattle.reg_journal.specs.Radar.{IsQuiet, IsState}
 use Rattle.reg_core.specs.Calls.{calls_of}
-use Rattle.reg_core.specs.Demands.{Fails, HasRules, Meets}
+use Rattle.reg_core.specs.inner.Demands.{FailsDemand, HasRules, MeetsDemand}
 use Rattle.reg_core.specs.declared.radar.Demand.{Demand}
 use Rattle.reg_core.specs.declared.radio.Radio.{Radio}
 use Rattle.reg_core.proofs.States.{state_alike}
@@ -52,11 +52,11 @@ centre_listed (c ∷ chans) s bound = elim (cases_eq c.khz s) [
 
 -- so the book tells its state
 pub state_told : (db : List Domain) (J : Journal) (r : ℕ) (radio : Radio) (c : ChanDef) (s : ℕ) (state : Dfs) → HasRules db J r radio c → IsBoundBy radio.chans.chans s
-    → IsAnswer (map (λ (c : Chan). c.khz) radio.chans.chans) (calls_of db J r) s state → IsState db J r s state
+    → IsBookAnswer (map (λ (c : Chan). c.khz) radio.chans.chans) (calls_of db J r) s state → IsState db J r s state
 state_told db J r radio c s state rules bound answer = (state_alike db J r s state rules.due).1 (answer.of_channel (centre_listed radio.chans.chans s bound))
 
 -- it has to be checked, and so fails where it doesn't meet the demand
-pub told_bound : (db : List Domain) (J : Journal) (r : ℕ) (demand : Demand) (s : ℕ) (met : Bool) → IsBoundOn db J r s → MatchBool met (Meets db J r demand s) (Meets db J r demand s → ⊥)
-    → MatchBool (not met) (Fails db J r demand s) (IsBoundOn db J r s → Meets db J r demand s)
+pub told_bound : (db : List Domain) (J : Journal) (r : ℕ) (demand : Demand) (s : ℕ) (met : Bool) → IsBoundOn db J r s → MatchBool met (MeetsDemand db J r demand s) (MeetsDemand db J r demand s → ⊥)
+    → MatchBool (not met) (FailsDemand db J r demand s) (IsBoundOn db J r s → MeetsDemand db J r demand s)
 told_bound db J r demand s true bound is = λ _. is
 told_bound db J r demand s false bound isn't = (bound, isn't)

@@ -12,10 +12,10 @@ use Rattle.rule_tables.specs.declared.domain.Domain.{Domain}
 use Rattle.radio_drv.specs.Air.{HasIface, HasPlace}
 use Rattle.radio_drv.specs.Seen.{Seen}
 use Rattle.radio_drv.specs.declared.on_air.OnAir.{OnAir}
-use Rattle.reg_journal.specs.Due.{AreDue}
+use Rattle.reg_journal.specs.Due.{EachMayFollow}
 use Rattle.reg_journal.specs.Facts.{Journal, made, ended, typed, set_to}
-use Rattle.reg_journal.specs.Present.{Iface, fresh, ifaces_of, ifaces_on, is_apart, is_removed, profile_of, with_kind, with_setting}
-use Rattle.reg_core.specs.Heard.{AreDriven, HasOnAir, IsDriven, driver_at}
+use Rattle.reg_journal.specs.Present.{Iface, new_iface, ifaces_of, ifaces_on, is_apart, is_removed, profile_of, with_kind, with_setting}
+use Rattle.reg_core.specs.DriverRows.{AreDriven, HasOnAir, IsDriven, driver_at}
 use Rattle.reg_core.specs.Told.{HasRoom}
 use Rattle.reg_core.proofs.AirEntries.{found_behind}
 use Rattle.reg_core.proofs.Airs.{air_at}
@@ -53,16 +53,16 @@ as_many_changed r g radio (x ∷ xs) = elim (cases_eq x.radio r) [
 ]
 
 -- a radio has eight at most
-pub few_on : (db : List Domain) (J : Journal) (r : ℕ) → AreDue db J → length (ifaces_on J r) ≤ 8
+pub few_on : (db : List Domain) (J : Journal) (r : ℕ) → EachMayFollow db J → length (ifaces_on J r) ≤ 8
 few_on db [] r due = omega arith
 few_on db (made j name q kind ∷ J) r due =
     let before = few_on db J r due.1 in
-    let split = ap (λ (xs : List Iface). length xs) (filter-append (is_of r) (ifaces_of J) (fresh j name q kind ∷ [])) in
+    let split = ap (λ (xs : List Iface). length xs) (filter-append (is_of r) (ifaces_of J) (new_iface j name q kind ∷ [])) in
     elim (cases_eq q r) [
       | inl here ↦
           let few : length (ifaces_on J r) < 8 = subst (λ n. length (ifaces_on J n) < 8) here due.0.4 in
-          let both = length-append (ifaces_on J r) (fresh j name q kind ∷ []) in
-          let all : length (ifaces_on (made j name q kind ∷ J) r) ≡ length (ifaces_on J r ++ fresh j name q kind ∷ []) = rw (eq-eqb q r here) at split in
+          let both = length-append (ifaces_on J r) (new_iface j name q kind ∷ []) in
+          let all : length (ifaces_on (made j name q kind ∷ J) r) ≡ length (ifaces_on J r ++ new_iface j name q kind ∷ []) = rw (eq-eqb q r here) at split in
           omega (arith, few, both, all)
       | inr elsewhere ↦
           let both = length-append (ifaces_on J r) [] in
@@ -140,7 +140,7 @@ there_listed J x has = by (find (λ y. y.index == x.index) (ifaces_on J x.radio)
 -- ---- places
 
 -- beside an interface that isn't on air there are fewer than eight
-room_beside : (db : List Domain) (J : Journal) (x : Iface) (air : List OnAir) → AreDue db J → Contains (ifaces_of J) x → HasOnAir J x.radio air
+room_beside : (db : List Domain) (J : Journal) (x : Iface) (air : List OnAir) → EachMayFollow db J → Contains (ifaces_of J) x → HasOnAir J x.radio air
     → air_at air x.index ≡ None → length air < 8
 room_beside db J x air due there has off =
     let on : List ℕ = map (λ (e : OnAir). e.iface) air in
@@ -167,7 +167,7 @@ on_air_found air i e found = let at = Contains-find (λ e. e.iface == i) air e f
     ]
 
 -- the list of an interface's radio has a place for it
-pub place_for : (db : List Domain) (J : Journal) (x : Iface) (air : List OnAir) → AreDue db J → Contains (ifaces_of J) x → HasOnAir J x.radio air → HasPlace air x.index
+pub place_for : (db : List Domain) (J : Journal) (x : Iface) (air : List OnAir) → EachMayFollow db J → Contains (ifaces_of J) x → HasOnAir J x.radio air → HasPlace air x.index
 place_for db J x air due there has = by (air_at air x.index) refl
   where
     by : (found : Option OnAir) → air_at air x.index ≡ found → HasPlace air x.index
@@ -175,15 +175,15 @@ place_for db J x air due there has = by (air_at air x.index) refl
     by None none = inr (room_beside db J x air due there has none)
 
 -- the radio of an interface that is there is there
-pub radio_there : (db : List Domain) (J : Journal) (x : Iface) → AreDue db J → Contains (ifaces_of J) x → IsSome (profile_of J x.radio)
+pub radio_there : (db : List Domain) (J : Journal) (x : Iface) → EachMayFollow db J → Contains (ifaces_of J) x → IsSome (profile_of J x.radio)
 radio_there db J x due there = home_there db J x.index x.radio due (home_listed db J x due there)
 
 -- so its driver is there, and has room
-pub room_for : (db : List Domain) (J : Journal) (x : Iface) (heard : List (Option Seen)) (radio index : ℕ) → radio ≡ x.radio → index ≡ x.index
-    → AreDue db J → AreDriven J heard → Contains (ifaces_of J) x → HasRoom (driver_at heard radio) index
-room_for db J x heard radio index its_radio its_index due driven there =
+pub room_for : (db : List Domain) (J : Journal) (x : Iface) (row : List (Option Seen)) (radio index : ℕ) → radio ≡ x.radio → index ≡ x.index
+    → EachMayFollow db J → AreDriven J row → Contains (ifaces_of J) x → HasRoom (driver_at row radio) index
+room_for db J x row radio index its_radio its_index due driven there =
     let profile = radio_there db J x due there in
-    rw (its_radio, its_index) (by (driver_at heard x.radio) (there_stays J x.radio profile) (driven.each x.radio (there_small db J x.radio due profile)))
+    rw (its_radio, its_index) (by (driver_at row x.radio) (there_stays J x.radio profile) (driven.each x.radio (there_small db J x.radio due profile)))
   where
     by : (o : Option Seen) → is_removed J x.radio ≡ false → IsDriven J x.radio o → HasRoom o x.index
     by None stays gone = absurd (false≢true (sym stays ∙ gone))

@@ -3,11 +3,11 @@ use Rattle.std.proofs.Common.{◌≡◌, ℕ, zero, suc, ◌<◌, List, ◌∷�
 use Rattle.rule_tables.specs.declared.domain.Domain.{Domain}
 use Rattle.rule_intersect.specs.Tables.{Joined, IsTableOf}
 use Rattle.rule_intersect.proofs.OneTable.{no_table_of_too_many}
-use Rattle.reg_journal.specs.Refusals.{HasTooMany, IsTooLongAt, RowCauses}
+use Rattle.reg_journal.specs.Refusals.{HasTooManyRows, IsTooLongAt, RowCauses}
 use Rattle.reg_journal.specs.declared.refusal.Refusal.{Refusal}
 use Rattle.reg_journal.specs.declared.refusal.Refusal.TheVariants.{TooManyRows}
 
-pub first_too_long : (ds : List Domain) (lists : List (List Domain)) (rows : ℕ) → HasTooMany ds rows → RowCauses (ds ∷ lists) (TooManyRows rows)
+pub first_too_long : (ds : List Domain) (lists : List (List Domain)) (rows : ℕ) → HasTooManyRows ds rows → RowCauses (ds ∷ lists) (TooManyRows rows)
 first_too_long ds lists rows has =
     (0, record { here = (ds, refl, (rows, has)); none_before = λ j below long. omega (arith, below) }, ds, refl, rows, has, refl)
 

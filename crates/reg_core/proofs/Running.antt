@@ -3,12 +3,12 @@ use Rattle.std.proofs.Common.{◌≡◌, ℕ, ◌+◌, ◌==◌, List, [], ◌�
 use Rattle.std.proofs.lemmas.Option.{none-some}
 use Rattle.rule_tables.specs.declared.domain.Domain.{Domain}
 use Rattle.chan_def.specs.declared.definition.ChanDef.{ChanDef}
-use Rattle.dfs_states.specs.Calls.{Call, Radar, Begin, DropCheck, now_of as now_of_calls, HasCall, HasBegin}
-use Rattle.dfs_states.specs.Meaning.{Runs, IsIdle}
+use Rattle.dfs_states.specs.Calls.{Call, Radar, Begin, DropCheck, moment_of as now_of_calls, HasCall, HasBegin}
+use Rattle.dfs_states.specs.Meaning.{Runs, IsFreeSlot}
 use Rattle.reg_journal.specs.Facts.{Journal, moment_is, radio_added, radio_removed, hinted, radar_met, check_begun, check_dropped}
 use Rattle.reg_journal.specs.OnAir.{is_on}
 use Rattle.reg_journal.specs.Present.{Check, now_of, radio_of, check_of, last_check_of}
-use Rattle.reg_journal.specs.Due.{AreDue}
+use Rattle.reg_journal.specs.Due.{EachMayFollow}
 use Rattle.reg_journal.specs.Radar.{HasCheck}
 use Rattle.reg_core.specs.Calls.{calls_of}
 use Rattle.reg_core.specs.Slots.{slot_of}
@@ -42,13 +42,13 @@ calls-now db (radio_removed q ∷ J) r = region_pushed (IsNow J) db (radio_remov
 calls-now db (f ∷ J) r = calls-now db J r
 
 -- the running check of an interface runs in its slot
-pub runs_of_check : (db : List Domain) (J : Journal) (i r : ℕ) (k : Check) → AreDue db J → radio_of J i ≡ Some r → check_of J i ≡ Some k
+pub runs_of_check : (db : List Domain) (J : Journal) (i r : ℕ) (k : Check) → EachMayFollow db J → radio_of J i ≡ Some r → check_of J i ≡ Some k
     → Runs (calls_of db J r) (slot_of J i) k.chan k.begin (k.begin + k.length)
 runs_of_check db J i r k due radio check =
     let parts = check_parts J i k check in
     let was = last_check J i k parts.0 in
     let base : Journal = check_begun i k.chan k.length ∷ was.older in
-    let due' : AreDue db (was.newer ++ base) = subst (AreDue db) was.begun due in
+    let due' : EachMayFollow db (was.newer ++ base) = subst (EachMayFollow db) was.begun due in
     let on_radio : radio_of (was.newer ++ base) i ≡ Some r = subst (λ xs. radio_of xs i ≡ Some r) was.begun radio in
     let radio' = radio_begun db was.newer was.older i r k.chan k.length due' on_radio in
     let check' : check_of (was.newer ++ base) i ≡ Some k = subst (λ xs. check_of xs i ≡ Some k) was.begun check in
@@ -69,7 +69,7 @@ runs_of_check db J i r k due radio check =
     })
 
 -- a check that runs in a slot is that of an interface which is there on the radio, and has the slot
-pub check_of_runs : (db : List Domain) (J : Journal) (r slot : ℕ) (chan : ChanDef) (start end : ℕ) → AreDue db J → Runs (calls_of db J r) slot chan start end
+pub check_of_runs : (db : List Domain) (J : Journal) (r slot : ℕ) (chan : ChanDef) (start end : ℕ) → EachMayFollow db J → Runs (calls_of db J r) slot chan start end
     → (i : ℕ) × (k : Check) × (home_of J i ≡ Some r) × (slot_of J i ≡ slot) × (check_of J i ≡ Some k)
 check_of_runs db J r slot chan start end due runs =
     let of = from_calls db J r runs.newer (Begin slot chan runs.length) runs.older runs.begun in
@@ -78,7 +78,7 @@ check_of_runs db J r slot chan start end due runs =
     let base : Journal = check_begun i chan runs.length ∷ of.older in
     let begun : J ≡ of.newer ++ base = of.at ∙ ap (λ f. of.newer ++ f ∷ of.older) from.1 in
     let after : runs.newer ≡ calls_over db of.newer base r = of.after ∙ ap (λ f. calls_over db of.newer (f ∷ of.older) r) from.1 in
-    let due' : AreDue db (of.newer ++ base) = subst (AreDue db) begun due in
+    let due' : EachMayFollow db (of.newer ++ base) = subst (EachMayFollow db) begun due in
     let radio : radio_of base i ≡ Some r = from.2 in
     let radio' : radio_of (of.newer ++ base) i ≡ Some r = radio_later db of.newer base i r due' radio in
     let slots : slot_of (of.newer ++ base) i ≡ slot = slot_later db of.newer base i r due' radio ∙ from.3 in
@@ -106,8 +106,8 @@ check_of_runs db J r slot chan start end due runs =
     )
 
 -- where no check of an interface runs that is there, none runs in its slot
-pub idle_of_none : (db : List Domain) (J : Journal) (i r : ℕ) → AreDue db J → home_of J i ≡ Some r → check_of J i ≡ None
-    → IsIdle (calls_of db J r) (slot_of J i)
+pub idle_of_none : (db : List Domain) (J : Journal) (i r : ℕ) → EachMayFollow db J → home_of J i ≡ Some r → check_of J i ≡ None
+    → IsFreeSlot (calls_of db J r) (slot_of J i)
 idle_of_none db J i r due home none busy =
     let of = check_of_runs db J r (slot_of J i) busy.chan busy.start busy.end due busy.runs in
     let same : of.0 ≡ i = slots_apart db J of.0 i r due of.2 home of.3 in

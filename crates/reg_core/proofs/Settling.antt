@@ -14,13 +14,13 @@ use Rattle.reg_hints.specs.declared.hint.Hint.TheVariants.{User}
 use Rattle.reg_hints.specs.declared.hint.Treatment.{Treatment}
 use Rattle.reg_hints.specs.declared.hint.Treatment.TheVariants.{Replace, Intersect, Already, Ignore}
 use Rattle.reg_journal.specs.Applicable.{custom_domains, driver_code_of, hints_of, is_self_managed}
-use Rattle.reg_journal.specs.Due.{AreDue}
+use Rattle.reg_journal.specs.Due.{EachMayFollow}
 use Rattle.reg_journal.specs.Facts.{Fact, Journal, moment_is, radio_added, hinted, made, started, stopped}
 use Rattle.reg_journal.specs.Granted.{IsPermitted}
-use Rattle.reg_journal.specs.Present.{Check, Iface, Operation, check_of, fresh, ifaces_of, indexed, is_used, operation_of}
+use Rattle.reg_journal.specs.Present.{Check, Iface, Operation, check_of, new_iface, ifaces_of, indexed, is_used, operation_of}
 use Rattle.reg_journal.specs.Refusals.{IsInUse}
 use Rattle.reg_journal.specs.Settled.{AreSettled, IsCheckPermitted, IsSettled}
-use Rattle.reg_core.specs.Lists.{applies_by, region_by}
+use Rattle.reg_core.specs.inner.Lists.{applies_by, region_by}
 use Rattle.reg_core.specs.Stepping.{SomeRuns, changes_list}
 use Rattle.reg_core.proofs.Added.{radio_used}
 use Rattle.reg_core.proofs.Drops.{some_value}
@@ -42,7 +42,7 @@ idle_settled db J x idle = by (operation_of J x.index) (check_of J x.index) idle
     by (Some o) k idle = absurd (idle (inl refl))
 
 -- one that neither starts, stops nor begins a check, on a radio that the fact leaves
-settled_stays : (db : List Domain) (f : Fact) (J : Journal) (x : Iface) → AreDue db (f ∷ J) → LeavesRadio db f J x.radio
+settled_stays : (db : List Domain) (f : Fact) (J : Journal) (x : Iface) → EachMayFollow db (f ∷ J) → LeavesRadio db f J x.radio
     → operation_of (f ∷ J) x.index ≡ operation_of J x.index → (BeginsCheck f x.index → ⊥) → IsSettled db J x → IsSettled db (f ∷ J) x
 settled_stays db f J x due leaves same other settled =
     subst (λ o. MatchOption o (IfSome (check_of (f ∷ J) x.index) (IsCheckPermitted db (f ∷ J) x)) (λ o. IsPermitted db (f ∷ J) x o.chan o.power)) (sym same)
@@ -66,7 +66,7 @@ pub settled_at_first : (db : List Domain) → AreSettled db []
 settled_at_first db x has = absurd (Contains-nothing x has)
 
 -- time passes: what is quiet stays quiet, and a check that stands stays
-pub settled_after_moment : (db : List Domain) (J : Journal) (moment : ℕ) → AreDue db (moment_is moment ∷ J) → AreSettled db J → AreSettled db (moment_is moment ∷ J)
+pub settled_after_moment : (db : List Domain) (J : Journal) (moment : ℕ) → EachMayFollow db (moment_is moment ∷ J) → AreSettled db J → AreSettled db (moment_is moment ∷ J)
 settled_after_moment db J moment due settled x has =
     settled_stays db (moment_is moment) J x due leaves refl (λ (c, n, begins). cc) (settled x has)
   where
@@ -74,7 +74,7 @@ settled_after_moment db J moment due settled x has =
     leaves = record { domains = refl; profile = refl; region = refl; indoor = refl; unmet = λ chan met. cc }
 
 -- a radio that is added is another one than that of each interface
-pub settled_after_radio_added : (db : List Domain) (J : Journal) (r : ℕ) (profile : Abilities) → AreDue db (radio_added r profile ∷ J) → AreSettled db J
+pub settled_after_radio_added : (db : List Domain) (J : Journal) (r : ℕ) (profile : Abilities) → EachMayFollow db (radio_added r profile ∷ J) → AreSettled db J
     → AreSettled db (radio_added r profile ∷ J)
 settled_after_radio_added db J r profile due settled x has =
     settled_stays db (radio_added r profile) J x due (leaves-spared db (radio_added r profile) J x.radio (ne_eqb x.radio r other) refl) refl (λ (c, n, begins). cc)
@@ -86,19 +86,19 @@ settled_after_radio_added db J r profile due settled x has =
         true≢false (sym used ∙ ap (is_used J) same ∙ due.0.1)
 
 -- a new interface does nothing
-pub settled_after_made : (db : List Domain) (J : Journal) (i : ℕ) (name : List ℕ) (r : ℕ) (kind : Kind) → AreDue db (made i name r kind ∷ J) → AreSettled db J
+pub settled_after_made : (db : List Domain) (J : Journal) (i : ℕ) (name : List ℕ) (r : ℕ) (kind : Kind) → EachMayFollow db (made i name r kind ∷ J) → AreSettled db J
     → AreSettled db (made i name r kind ∷ J)
-settled_after_made db J i name r kind due settled x has = elim (Contains-push_cases (ifaces_of J) (fresh i name r kind) x has) [
+settled_after_made db J i name r kind due settled x has = elim (Contains-push_cases (ifaces_of J) (new_iface i name r kind) x has) [
   | inl was ↦ settled_stays db (made i name r kind) J x due (leaves-spared db (made i name r kind) J x.radio tt refl) refl (λ (c, n, begins). cc) (settled x was)
-  | inr new ↦ subst (IsSettled db (made i name r kind ∷ J)) new (idle_settled db (made i name r kind ∷ J) (fresh i name r kind) idle)
+  | inr new ↦ subst (IsSettled db (made i name r kind ∷ J)) new (idle_settled db (made i name r kind ∷ J) (new_iface i name r kind) idle)
 ]
   where
-    idle : IsInUse (made i name r kind ∷ J) (fresh i name r kind) → ⊥
+    idle : IsInUse (made i name r kind ∷ J) (new_iface i name r kind) → ⊥
     idle (inl operation) = true≢false (sym operation ∙ ap is_some (no_operation_next db J i due.1 due.0.0))
     idle (inr check) = true≢false (sym check ∙ ap is_some (no_check_next db J i due.1 due.0.0))
 
 -- an interface that stops does nothing more: no check runs beside an operation
-pub settled_after_stopped : (db : List Domain) (J : Journal) (i : ℕ) → AreDue db (stopped i ∷ J) → AreSettled db J → AreSettled db (stopped i ∷ J)
+pub settled_after_stopped : (db : List Domain) (J : Journal) (i : ℕ) → EachMayFollow db (stopped i ∷ J) → AreSettled db J → AreSettled db (stopped i ∷ J)
 settled_after_stopped db J i due settled x has = elim (cases_eq x.index i) [
   | inl same ↦ idle_settled db (stopped i ∷ J) x (λ used. elim used [
     | inl operation ↦ true≢false (sym (rw (eq-eqb x.index i same) at operation))
@@ -111,7 +111,7 @@ settled_after_stopped db J i due settled x has = elim (cases_eq x.index i) [
 ]
 
 -- an interface starts what it may do
-pub settled_after_started : (db : List Domain) (J : Journal) (x : Iface) (i : ℕ) (c : ChanDef) (power : ℕ) → AreDue db (started i c power ∷ J)
+pub settled_after_started : (db : List Domain) (J : Journal) (x : Iface) (i : ℕ) (c : ChanDef) (power : ℕ) → EachMayFollow db (started i c power ∷ J)
     → indexed J i ≡ Some x → IsPermitted db J x c power → AreSettled db J → AreSettled db (started i c power ∷ J)
 settled_after_started db J x i c power due found may settled y has = elim (cases_eq y.index i) [
   | inl same ↦
@@ -138,7 +138,7 @@ leaves-user_hint db J a r same = record {
 }
 
 -- so it ends nothing
-pub settled_after_same_hints : (db : List Domain) (J : Journal) (a : Alpha2) → AreDue db (hinted (Treated (User a)) ∷ J)
+pub settled_after_same_hints : (db : List Domain) (J : Journal) (a : Alpha2) → EachMayFollow db (hinted (Treated (User a)) ∷ J)
     → hints_of (hinted (Treated (User a)) ∷ J) ≡ hints_of J → AreSettled db J → AreSettled db (hinted (Treated (User a)) ∷ J)
 settled_after_same_hints db J a due same settled x has =
     settled_stays db (hinted (Treated (User a))) J x due (leaves-user_hint db J a x.radio same) refl (λ (c, n, begins). cc) (settled x has)
@@ -149,7 +149,7 @@ pub settled_after_hint_while_idle : (db : List Domain) (J : Journal) (hint : Hin
 settled_after_hint_while_idle db J hint unused x has = idle_settled db (hinted hint ∷ J) x (unused x has)
 
 -- a user's hint ends nothing where it leaves the global list, or else nothing runs
-pub settled_after_user_hint : (db : List Domain) (J : Journal) (a : Alpha2) → AreDue db (hinted (Treated (User a)) ∷ J)
+pub settled_after_user_hint : (db : List Domain) (J : Journal) (a : Alpha2) → EachMayFollow db (hinted (Treated (User a)) ∷ J)
     → (IsTrue (changes_list (treatment (hints_of J) (User a))) → SomeRuns J → ⊥) → AreSettled db J → AreSettled db (hinted (Treated (User a)) ∷ J)
 settled_after_user_hint db J a due none settled = by (treatment (hints_of J) (User a)) refl
   where

@@ -15,9 +15,9 @@ use Rattle.reg_journal.specs.Refusals.{FailsDriver, InUseFor, InvalidChannel, St
 use Rattle.reg_journal.specs.declared.refusal.Refusal.{Refusal}
 use Rattle.reg_journal.specs.declared.refusal.Refusal.TheVariants.{BadChannel, Busy, DriverFailed, NoInterface, NotRunning, WrongType}
 use Rattle.reg_journal.proofs.Granting.{free-before, free-where, free_of_granted}
-use Rattle.reg_core.specs.Starting.{HasStart}
+use Rattle.reg_core.specs.inner.Starting.{HasStart}
 use Rattle.reg_core.specs.Stepping.{is_failure}
-use Rattle.reg_core.specs.declared.port.Port.{Port}
+use Rattle.reg_core.specs.declared.interface.Interface.{Interface}
 
 -- ---- starts
 
@@ -74,9 +74,9 @@ start_where_barred db J kind c failed x e same no_operation no_check valid bars 
 
 -- ---- a start that is granted
 
-pub start_free : (db : List Domain) (J : Journal) (name : List ℕ) (kind : Kind) (c : ChanDef) (port : Port) (power : ℕ) → HasStart db J name kind c port power
+pub start_free : (db : List Domain) (J : Journal) (name : List ℕ) (kind : Kind) (c : ChanDef) (interface : Interface) (power : ℕ) → HasStart db J name kind c interface power
     → IsFree (StartCauses db J name kind c false)
-start_free db J name kind c port power has =
+start_free db J name kind c interface power has =
     free-before _ _ (free-where _ _ (λ none. let is = has.is_named in absurd (cc (is, none))))
     (λ e cause. free-before _ _ (free-where _ _ (λ other. other has.right_kind))
     (free-before _ _ (free-where _ _ (not_in_use J has.iface kind has.no_operation has.no_check))
@@ -84,9 +84,9 @@ start_free db J name kind c port power has =
     (free-before _ _ (free_of_granted db J has.iface c power has.granted)
     (free-where _ _ (λ failed. absurd (false≢true failed)))))) e (rw has.is_named at cause))
 
-pub start_fails : (db : List Domain) (J : Journal) (name : List ℕ) (kind : Kind) (c : ChanDef) (port : Port) (power : ℕ) → HasStart db J name kind c port power
+pub start_fails : (db : List Domain) (J : Journal) (name : List ℕ) (kind : Kind) (c : ChanDef) (interface : Interface) (power : ℕ) → HasStart db J name kind c interface power
     → StartCauses db J name kind c true DriverFailed
-start_fails db J name kind c port power has =
+start_fails db J name kind c interface power has =
     start_barred db J name kind c true has.iface DriverFailed has.is_named
     (inr (
       free-where _ _ (λ other. other has.right_kind),

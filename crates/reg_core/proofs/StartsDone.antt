@@ -7,20 +7,20 @@ use Rattle.radio_drv.specs.Air.{started as put_on_air, stopped as taken_off}
 use Rattle.radio_drv.specs.Seen.{Seen}
 use Rattle.chan_flags.specs.Profiles.{Abilities}
 use Rattle.chan_flags.proofs.Granted.{power_within}
-use Rattle.reg_journal.specs.Due.{AreDue}
+use Rattle.reg_journal.specs.Due.{EachMayFollow}
 use Rattle.reg_journal.specs.Granted.{IsGranted}
 use Rattle.reg_journal.specs.Facts.{Journal, started, stopped}
 use Rattle.reg_journal.specs.OnAir.{entry}
 use Rattle.reg_journal.specs.Present.{Iface, abilities_of, no_abilities}
 use Rattle.reg_journal.proofs.Granting.{power_of_granted}
-use Rattle.reg_core.specs.Heard.{AreDriven, driver_at}
-use Rattle.reg_core.specs.Judging.{IsJudged}
+use Rattle.reg_core.specs.DriverRows.{AreDriven, driver_at}
+use Rattle.reg_core.specs.inner.Judging.{IsJudged}
 use Rattle.reg_core.specs.Kept.{KeepsRadio, StandsFor, kept}
-use Rattle.reg_core.specs.Ports.{with_operation}
-use Rattle.reg_core.specs.Starting.{Falls, HasStart, HasStop, IsResting, Starts, Stops}
-use Rattle.reg_core.specs.Told.{Fails, HasRoom, OneGoes, Takes}
-use Rattle.reg_core.specs.declared.core_parts.Core.{Core}
-use Rattle.reg_core.specs.declared.port.Port.{Port}
+use Rattle.reg_core.specs.inner.Interfaces.{with_operation}
+use Rattle.reg_core.specs.inner.Starting.{Falls, HasStart, HasStop, HasRestingIface, Starts, Stops}
+use Rattle.reg_core.specs.Told.{DriverFails, HasRoom, OneGoes, DriverTakes}
+use Rattle.reg_core.specs.declared.core_state.Core.{Core}
+use Rattle.reg_core.specs.declared.interface.Interface.{Interface}
 use Rattle.reg_core.specs.declared.radio.Radio.{Radio}
 use Rattle.reg_core.proofs.Listed.{indexed_listed, named_listed}
 use Rattle.reg_core.proofs.Room.{room_for}
@@ -41,12 +41,12 @@ granted_small db J x c power radio kept granted =
     omega (arith, fits, most, within, is)
 
 -- what is granted to an interface that rests
-pub has_start : (db : List Domain) (J : Journal) (name : List ℕ) (kind : Kind) (c : ChanDef) (port : Port) (radio : Radio) (power : ℕ)
-    → (rests : IsResting db J name kind port radio) → IsGranted db J rests.iface c power → HasStart db J name kind c port power
-has_start db J name kind c port radio power rests granted = record {
+pub has_start : (db : List Domain) (J : Journal) (name : List ℕ) (kind : Kind) (c : ChanDef) (interface : Interface) (radio : Radio) (power : ℕ)
+    → (rests : HasRestingIface db J name kind interface radio) → IsGranted db J rests.iface c power → HasStart db J name kind c interface power
+has_start db J name kind c interface radio power rests granted = record {
   iface = rests.iface;
   is_named = rests.is_named;
-  port_is = rests.port_is;
+  interface_is = rests.interface_is;
   right_kind = rests.right_kind;
   no_operation = rests.no_operation;
   no_check = rests.no_check;
@@ -55,69 +55,69 @@ has_start db J name kind c port radio power rests granted = record {
 }
 
 -- what the core keeps of it
-pub is_judged : (db : List Domain) (J : Journal) (name : List ℕ) (kind : Kind) (port : Port) (radio : Radio) (core : Core) (ports : List Port) → StandsFor db core J
-    → (rests : IsResting db J name kind port radio) → ports ≡ core.ports → IsJudged db J rests.iface port ports radio core.indoor
-is_judged db J name kind port radio core ports s rests same = record {
+pub is_judged : (db : List Domain) (J : Journal) (name : List ℕ) (kind : Kind) (interface : Interface) (radio : Radio) (core : Core) (interfaces : List Interface) → StandsFor db core J
+    → (rests : HasRestingIface db J name kind interface radio) → interfaces ≡ core.interfaces → IsJudged db J rests.iface interface interfaces radio core.indoor
+is_judged db J name kind interface radio core interfaces s rests same = record {
   among = record {
     due = s.due;
     there = named_listed J name rests.iface rests.is_named;
-    port_is = rests.port_is;
-    ports_are = same ∙ s.ports;
+    interface_is = rests.interface_is;
+    interfaces_are = same ∙ s.interfaces;
     radio_is = rests.radio_is;
   };
   indoor_is = s.indoor;
 }
 
 -- the driver has a place for the interface
-pub start_has_room : (db : List Domain) (J : Journal) (name : List ℕ) (kind : Kind) (c : ChanDef) (port : Port) (power : ℕ) (heard : List (Option Seen)) → AreDue db J
-    → AreDriven J heard → HasStart db J name kind c port power → HasRoom (driver_at heard port.radio) port.index
-start_has_room db J name kind c port power heard due driven has =
-    room_for db J has.iface heard port.radio port.index (ap (λ (p : Port). p.radio) has.port_is) (ap (λ (p : Port). p.index) has.port_is) due driven
+pub start_has_room : (db : List Domain) (J : Journal) (name : List ℕ) (kind : Kind) (c : ChanDef) (interface : Interface) (power : ℕ) (row : List (Option Seen)) → EachMayFollow db J
+    → AreDriven J row → HasStart db J name kind c interface power → HasRoom (driver_at row interface.radio) interface.index
+start_has_room db J name kind c interface power row due driven has =
+    room_for db J has.iface row interface.radio interface.index (ap (λ (p : Interface). p.radio) has.interface_is) (ap (λ (p : Interface). p.index) has.interface_is) due driven
     (named_listed J name has.iface has.is_named)
 
-pub starts_done : (db : List Domain) (J : Journal) (name : List ℕ) (kind : Kind) (c : ChanDef) (port : Port) (power : ℕ) (core : Core) (ports : List Port)
-    (heard heard' : List (Option Seen)) → StandsFor db core J → HasStart db J name kind c port power
-    → ports ≡ map (with_operation port.index (Some (record { chan = c; power_mbm = power }))) core.ports
-    → OneGoes port.radio (Takes (put_on_air (entry port.index c power))) heard heard'
-    → Starts db J name kind c power (record core { ports = ports }) heard heard'
-starts_done db J name kind c port power core ports heard heard' s has changed told =
+pub starts_done : (db : List Domain) (J : Journal) (name : List ℕ) (kind : Kind) (c : ChanDef) (interface : Interface) (power : ℕ) (core : Core) (interfaces : List Interface)
+    (row row' : List (Option Seen)) → StandsFor db core J → HasStart db J name kind c interface power
+    → interfaces ≡ map (with_operation interface.index (Some (record { chan = c; power_mbm = power }))) core.interfaces
+    → OneGoes interface.radio (DriverTakes (put_on_air (entry interface.index c power))) row row'
+    → Starts db J name kind c power (record core { interfaces = interfaces }) row row'
+starts_done db J name kind c interface power core interfaces row row' s has changed told =
     let x = has.iface in
     let there = named_listed J name x has.is_named in
-    let due : AreDue db (started x.index c power ∷ J) =
+    let due : EachMayFollow db (started x.index c power ∷ J) =
     (((has.no_check, rw (indexed_listed db J x s.due there) (inl has.no_operation)), (has.granted).valid, has.small), s.due) in
     record {
       iface = x;
       is_named = has.is_named;
-      free = start_free db J name kind c port power has;
+      free = start_free db J name kind c interface power has;
       granted = has.granted;
       power_is = power_of_granted db J x c power has.granted;
-      stands = stands_after_start db J core x c power ports s due there (has.granted).permitted
-          (changed ∙ ap (λ (p : Port). map (with_operation p.index (Some (record { chan = c; power_mbm = power }))) core.ports) has.port_is);
-      told = subst (λ (p : Port). OneGoes p.radio (Takes (put_on_air (entry p.index c power))) heard heard') has.port_is told;
+      stands = stands_after_start db J core x c power interfaces s due there (has.granted).permitted
+          (changed ∙ ap (λ (p : Interface). map (with_operation p.index (Some (record { chan = c; power_mbm = power }))) core.interfaces) has.interface_is);
+      told = subst (λ (p : Interface). OneGoes p.radio (DriverTakes (put_on_air (entry p.index c power))) row row') has.interface_is told;
     }
 
-pub falls_done : (db : List Domain) (J : Journal) (name : List ℕ) (kind : Kind) (c : ChanDef) (port : Port) (power : ℕ) (core : Core)
-    (heard heard' : List (Option Seen)) → HasStart db J name kind c port power → OneGoes port.radio Fails heard heard' → Falls db J name kind c core core heard heard'
-falls_done db J name kind c port power core heard heard' has told = record {
+pub falls_done : (db : List Domain) (J : Journal) (name : List ℕ) (kind : Kind) (c : ChanDef) (interface : Interface) (power : ℕ) (core : Core)
+    (row row' : List (Option Seen)) → HasStart db J name kind c interface power → OneGoes interface.radio DriverFails row row' → Falls db J name kind c core core row row'
+falls_done db J name kind c interface power core row row' has told = record {
   iface = has.iface;
   is_named = has.is_named;
-  cause = start_fails db J name kind c port power has;
+  cause = start_fails db J name kind c interface power has;
   unchanged = refl;
-  told = subst (λ (p : Port). OneGoes p.radio Fails heard heard') has.port_is told;
+  told = subst (λ (p : Interface). OneGoes p.radio DriverFails row row') has.interface_is told;
 }
 
 -- ---- stops
 
-pub stops_done : (db : List Domain) (J : Journal) (name : List ℕ) (kind : Kind) (port : Port) (core : Core) (ports : List Port) (heard heard' : List (Option Seen))
-    → StandsFor db core J → HasStop J name kind port → ports ≡ map (with_operation port.index None) core.ports
-    → OneGoes port.radio (Takes (taken_off port.index)) heard heard' → Stops db J name kind (record core { ports = ports }) heard heard'
-stops_done db J name kind port core ports heard heard' s has changed told =
+pub stops_done : (db : List Domain) (J : Journal) (name : List ℕ) (kind : Kind) (interface : Interface) (core : Core) (interfaces : List Interface) (row row' : List (Option Seen))
+    → StandsFor db core J → HasStop J name kind interface → interfaces ≡ map (with_operation interface.index None) core.interfaces
+    → OneGoes interface.radio (DriverTakes (taken_off interface.index)) row row' → Stops db J name kind (record core { interfaces = interfaces }) row row'
+stops_done db J name kind interface core interfaces row row' s has changed told =
     let x = has.iface in
-    let due : AreDue db (stopped x.index ∷ J) = (rw has.operates refl, s.due) in
+    let due : EachMayFollow db (stopped x.index ∷ J) = (rw has.operates refl, s.due) in
     record {
       iface = x;
       is_named = has.is_named;
       free = stop_free J name kind x has.operation has.is_named has.right_kind has.operates;
-      stands = stands_after_stop db J core x.index ports s due (changed ∙ ap (λ (p : Port). map (with_operation p.index None) core.ports) has.port_is);
-      told = subst (λ (p : Port). OneGoes p.radio (Takes (taken_off p.index)) heard heard') has.port_is told;
+      stands = stands_after_stop db J core x.index interfaces s due (changed ∙ ap (λ (p : Interface). map (with_operation p.index None) core.interfaces) has.interface_is);
+      told = subst (λ (p : Interface). OneGoes p.radio (DriverTakes (taken_off p.index)) row row') has.interface_is told;
     }

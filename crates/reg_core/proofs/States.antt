@@ -1,13 +1,13 @@
 -- The state of a subchannel is that of the radio's book.
 use Rattle.std.proofs.Common.{ℕ, ◌+◌, ◌<◌, ◌≤◌, ◌↔◌, List, ◌∷◌, ◌++◌, Some, sym, ap, subst, ◌∙◌}
 use Rattle.rule_tables.specs.declared.domain.Domain.{Domain}
-use Rattle.dfs_states.specs.Calls.{Radar, now_of as now_of_calls}
-use Rattle.dfs_states.specs.Meaning.{IsBarred as IsBarredInBook, IsQuiet as IsQuietInBook, Stands as StandsInBook, IsState as IsStateInBook}
+use Rattle.dfs_states.specs.Calls.{Radar, moment_of as now_of_calls}
+use Rattle.dfs_states.specs.Meaning.{HasNonoccupancy as IsBarredInBook, IsPastNonoccupancy as IsQuietInBook, CheckStands as StandsInBook, IsBookState as IsStateInBook}
 use Rattle.dfs_states.specs.declared.dfs.Dfs.{Dfs}
 use Rattle.dfs_states.specs.declared.dfs.Dfs.TheVariants.{Usable, Unavailable, Available}
 use Rattle.dfs_states.proofs.Most.{most_same}
 use Rattle.reg_journal.specs.Facts.{Journal, radar_met}
-use Rattle.reg_journal.specs.Due.{AreDue}
+use Rattle.reg_journal.specs.Due.{EachMayFollow}
 use Rattle.reg_journal.specs.Radar.{IsBarred, IsQuiet, Stands, IsState}
 use Rattle.reg_core.specs.Calls.{calls_of}
 use Rattle.reg_core.proofs.CallOf.{comes_from, call-radar}
@@ -53,22 +53,22 @@ quiet_alike db J r s = (
 -- ---- standing checks
 
 -- both ways
-stands_to_book : (db : List Domain) (J : Journal) (r s end : ℕ) → AreDue db J → Stands db J r s end → StandsInBook (calls_of db J r) s end
+stands_to_book : (db : List Domain) (J : Journal) (r s end : ℕ) → EachMayFollow db J → Stands db J r s end → StandsInBook (calls_of db J r) s end
 stands_to_book db J r s end due stands =
     let counts = counts_to_book db J r s end due stands.counts in
     record { slot = counts.0; counts = counts.1; done = subst (λ n. end ≤ n) (sym (calls-now db J r)) stands.over }
 
-stands_from_book : (db : List Domain) (J : Journal) (r s end : ℕ) → AreDue db J → StandsInBook (calls_of db J r) s end → Stands db J r s end
+stands_from_book : (db : List Domain) (J : Journal) (r s end : ℕ) → EachMayFollow db J → StandsInBook (calls_of db J r) s end → Stands db J r s end
 stands_from_book db J r s end due stands =
     record { counts = counts_from_book db J r s stands.slot end due stands.counts; over = subst (λ n. end ≤ n) (calls-now db J r) stands.done }
 
-pub stands_alike : (db : List Domain) (J : Journal) (r s end : ℕ) → AreDue db J → Stands db J r s end ↔ StandsInBook (calls_of db J r) s end
+pub stands_alike : (db : List Domain) (J : Journal) (r s end : ℕ) → EachMayFollow db J → Stands db J r s end ↔ StandsInBook (calls_of db J r) s end
 stands_alike db J r s end due = (stands_to_book db J r s end due, stands_from_book db J r s end due)
 
 -- ---- states
 
 -- both ways
-state_to_book : (db : List Domain) (J : Journal) (r s : ℕ) (d : Dfs) → AreDue db J → IsState db J r s d → IsStateInBook (calls_of db J r) s d
+state_to_book : (db : List Domain) (J : Journal) (r s : ℕ) (d : Dfs) → EachMayFollow db J → IsState db J r s d → IsStateInBook (calls_of db J r) s d
 state_to_book db J r s (Unavailable until) due is = (
   most_same (IsBarred J r s) (IsBarredInBook (calls_of db J r) s) (Some until) (barred_to_book db J r s) (barred_from_book db J r s) is.0,
   subst (λ n. n < until) (sym (calls-now db J r)) is.1,
@@ -80,7 +80,7 @@ state_to_book db J r s (Available since) due is = (
 )
 state_to_book db J r s Usable due is = ((quiet_alike db J r s).0 is.0, λ end stands. is.1 end (stands_from_book db J r s end due stands))
 
-state_from_book : (db : List Domain) (J : Journal) (r s : ℕ) (d : Dfs) → AreDue db J → IsStateInBook (calls_of db J r) s d → IsState db J r s d
+state_from_book : (db : List Domain) (J : Journal) (r s : ℕ) (d : Dfs) → EachMayFollow db J → IsStateInBook (calls_of db J r) s d → IsState db J r s d
 state_from_book db J r s (Unavailable until) due is = (
   most_same (IsBarredInBook (calls_of db J r) s) (IsBarred J r s) (Some until) (barred_from_book db J r s) (barred_to_book db J r s) is.0,
   subst (λ n. n < until) (calls-now db J r) is.1,
@@ -92,5 +92,5 @@ state_from_book db J r s (Available since) due is = (
 )
 state_from_book db J r s Usable due is = ((quiet_alike db J r s).1 is.0, λ end stands. is.1 end (stands_to_book db J r s end due stands))
 
-pub state_alike : (db : List Domain) (J : Journal) (r s : ℕ) (d : Dfs) → AreDue db J → IsState db J r s d ↔ IsStateInBook (calls_of db J r) s d
+pub state_alike : (db : List Domain) (J : Journal) (r s : ℕ) (d : Dfs) → EachMayFollow db J → IsState db J r s d ↔ IsStateInBook (calls_of db J r) s d
 state_alike db J r s d due = (state_to_book db J r s d due, state_from_book db J r s d due)

@@ -2,7 +2,7 @@
 use Rattle.std.proofs.Common.{◌≡◌, ◌<◌, ℕ, List, Option, None, length, get_or, map, set, sym, ap, subst, ◌∙◌}
 use Rattle.std.proofs.lemmas.List.{get_or-map, get_or-set_same, length-map, map-set}
 use Rattle.radio_drv.specs.Seen.{Seen}
-use Rattle.reg_core.specs.Heard.{driver_at}
+use Rattle.reg_core.specs.DriverRows.{driver_at}
 use Rattle.reg_core.specs.Told.{OneGoes}
 
 -- where the radio's element changes and its driver goes so, no other driver hears of it

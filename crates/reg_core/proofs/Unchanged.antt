@@ -5,26 +5,28 @@ use Rattle.std.proofs.lemmas.Bool.{cases_Bool, eqb-true}
 use Rattle.std.specs.Option.{option_map, option_to_list}
 use Rattle.std.proofs.lemmas.List.{get_or-set_other, get_or-set_same}
 use Rattle.freq_range.specs.declared.rule.Rule.{Rule}
-use Rattle.rule_tables.specs.FileFormat.{region_number}
+use Rattle.rule_tables.specs.Regions.{region_number}
 use Rattle.rule_tables.specs.declared.domain.Domain.{Domain}
 use Rattle.chan_flags.specs.Profiles.{Abilities}
 use Rattle.chan_flags.specs.Records.{AreRecords}
 use Rattle.rule_intersect.specs.Tables.{IsTableOf}
 use Rattle.dfs_states.specs.Calls.{Call, Radar, Begin, DropCheck, RegionChanged}
-use Rattle.dfs_states.specs.StandsFor.{StandsFor as BookStandsFor}
+use Rattle.dfs_states.specs.StandsFor.{BookStandsFor}
 use Rattle.reg_hints.specs.Table.{Own, Treated}
 use Rattle.rule_tables.specs.declared.code.Alpha2.{Alpha2}
 use Rattle.reg_journal.specs.Facts.{Fact, Journal, moment_is, radio_added, radio_removed, rules_are, hinted, radar_met, check_begun, check_dropped}
-use Rattle.reg_journal.specs.Applicable.{applies, custom_domains, driver_code_of, hints_of, is_same_region, is_self_managed, own_domain, region_of}
+use Rattle.rule_tables.specs.World.{custom_domain}
+use Rattle.rule_tables.specs.Regions.{is_same_region}
+use Rattle.reg_journal.specs.Applicable.{applies, custom_domains, driver_code_of, hints_of, is_self_managed, region_of}
 use Rattle.reg_journal.specs.OnAir.{is_on}
 use Rattle.reg_journal.specs.Present.{custom_rules_of, is_used, no_abilities, profile_of}
 use Rattle.reg_core.specs.Calls.{calls_of, pushed}
-use Rattle.reg_core.specs.Kept.{KeepsRadio, KeepsRadios, KeepsSlot}
-use Rattle.reg_core.specs.Lists.{applies_by, region_by}
+use Rattle.reg_core.specs.Kept.{KeepsRadio, KeepsRadios, KeepsPlace}
+use Rattle.reg_core.specs.inner.Lists.{applies_by, region_by}
 use Rattle.reg_core.specs.Slots.{slot_of}
 use Rattle.reg_core.specs.declared.radio.Radio.{Radio}
-use Rattle.reg_core.specs.declared.radio.RadioSlot.{RadioSlot}
-use Rattle.reg_core.specs.declared.radio.RadioSlot.TheVariants.{Free, Removed, There}
+use Rattle.reg_core.specs.declared.radio.RadioPlace.{RadioPlace}
+use Rattle.reg_core.specs.declared.radio.RadioPlace.TheVariants.{Free, Removed, There}
 use Rattle.reg_core.proofs.NewRadios.{applies_by-same}
 
 -- the fact speaks neither of the radio nor of all radios
@@ -90,7 +92,7 @@ driver_code_of-spared J r (hinted (Own q a)) spares = other_code J r (Some a) (r
 driver_code_of-spared J r f spares = refl
 
 custom_domains-spared : (J : Journal) (r : ℕ) (f : Fact) → SparesRadio J r f → custom_domains (f ∷ J) r ≡ custom_domains J r
-custom_domains-spared J r f spares = ap (λ o. option_to_list (option_map own_domain o)) (custom_rules_of-spared J r f spares)
+custom_domains-spared J r f spares = ap (λ o. option_to_list (option_map custom_domain o)) (custom_rules_of-spared J r f spares)
 
 is_self_managed-spared : (J : Journal) (r : ℕ) (f : Fact) → SparesRadio J r f → is_self_managed (f ∷ J) r ≡ is_self_managed J r
 is_self_managed-spared J r f spares = ap (λ o. (unwrap_or o no_abilities).self_managed) (profile_of-spared J r f spares)
@@ -135,23 +137,23 @@ KeepsRadio-spared db J r f radio spares kept = record {
   book = subst (λ calls. BookStandsFor radio.book (map (λ c. c.khz) radio.chans.chans) calls) (sym (calls_of-spared db J r f spares)) kept.book;
 }
 
-pub KeepsSlot-spared : (db : List Domain) (J : Journal) (r : ℕ) (f : Fact) (slot : RadioSlot) → SparesRadio J r f → KeepsSlot db J r slot → KeepsSlot db (f ∷ J) r slot
-KeepsSlot-spared db J r f Free spares kept = is_used-spared J r f spares ∙ kept
-KeepsSlot-spared db J r f Removed spares kept = (is_used-spared J r f spares ∙ kept.0, profile_of-spared J r f spares ∙ kept.1)
-KeepsSlot-spared db J r f (There radio) spares kept = (is_used-spared J r f spares ∙ kept.0, KeepsRadio-spared db J r f radio spares kept.1)
+pub KeepsPlace-spared : (db : List Domain) (J : Journal) (r : ℕ) (f : Fact) (place : RadioPlace) → SparesRadio J r f → KeepsPlace db J r place → KeepsPlace db (f ∷ J) r place
+KeepsPlace-spared db J r f Free spares kept = is_used-spared J r f spares ∙ kept
+KeepsPlace-spared db J r f Removed spares kept = (is_used-spared J r f spares ∙ kept.0, profile_of-spared J r f spares ∙ kept.1)
+KeepsPlace-spared db J r f (There radio) spares kept = (is_used-spared J r f spares ∙ kept.0, KeepsRadio-spared db J r f radio spares kept.1)
 
 -- a fact that spares each radio
-pub KeepsRadios-spared : (db : List Domain) (J : Journal) (f : Fact) (slots : List RadioSlot) → ((r : ℕ) → SparesRadio J r f) → KeepsRadios db J slots → KeepsRadios db (f ∷ J) slots
-KeepsRadios-spared db J f slots spares kept = λ r below. KeepsSlot-spared db J r f (get_or slots r Free) (spares r) (kept r below)
+pub KeepsRadios-spared : (db : List Domain) (J : Journal) (f : Fact) (places : List RadioPlace) → ((r : ℕ) → SparesRadio J r f) → KeepsRadios db J places → KeepsRadios db (f ∷ J) places
+KeepsRadios-spared db J f places spares kept = λ r below. KeepsPlace-spared db J r f (get_or places r Free) (spares r) (kept r below)
 
 -- a fact that spares each radio but one, whose place is written
-pub KeepsRadios-at : (db : List Domain) (J : Journal) (f : Fact) (slots : List RadioSlot) (q : ℕ) (slot : RadioSlot) → q < length slots
-    → ((r : ℕ) → (r == q) ≡ false → SparesRadio J r f) → KeepsSlot db (f ∷ J) q slot → KeepsRadios db J slots → KeepsRadios db (f ∷ J) (set slots q slot)
-KeepsRadios-at db J f slots q slot within spares is kept = λ r below. elim (cases_Bool (r == q)) [
+pub KeepsRadios-at : (db : List Domain) (J : Journal) (f : Fact) (places : List RadioPlace) (q : ℕ) (place : RadioPlace) → q < length places
+    → ((r : ℕ) → (r == q) ≡ false → SparesRadio J r f) → KeepsPlace db (f ∷ J) q place → KeepsRadios db J places → KeepsRadios db (f ∷ J) (set places q place)
+KeepsRadios-at db J f places q place within spares is kept = λ r below. elim (cases_Bool (r == q)) [
   | inl same ↦
-      subst (λ n. KeepsSlot db (f ∷ J) n (get_or (set slots q slot) n Free)) (sym (eqb-true r q same))
-      (subst (KeepsSlot db (f ∷ J) q) (sym (get_or-set_same slots q slot Free within)) is)
+      subst (λ n. KeepsPlace db (f ∷ J) n (get_or (set places q place) n Free)) (sym (eqb-true r q same))
+      (subst (KeepsPlace db (f ∷ J) q) (sym (get_or-set_same places q place Free within)) is)
   | inr other ↦
-      subst (KeepsSlot db (f ∷ J) r) (sym (get_or-set_other slots q r slot Free (λ same. let test : (r == q) ≡ true = eq-eqb r q same in absurd cc)))
-      (KeepsSlot-spared db J r f (get_or slots r Free) (spares r other) (kept r below))
+      subst (KeepsPlace db (f ∷ J) r) (sym (get_or-set_other places q r place Free (λ same. let test : (r == q) ≡ true = eq-eqb r q same in absurd cc)))
+      (KeepsPlace-spared db J r f (get_or places r Free) (spares r other) (kept r below))
 ]

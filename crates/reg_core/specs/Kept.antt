@@ -5,20 +5,20 @@ use Rattle.rule_tables.specs.declared.domain.Domain.{Domain}
 use Rattle.rule_intersect.specs.Tables.{IsTableOf}
 use Rattle.chan_flags.specs.Profiles.{IsProfile}
 use Rattle.chan_flags.specs.Records.{AreRecords}
-use Rattle.dfs_states.specs.StandsFor.{StandsFor as BookStandsFor}
+use Rattle.dfs_states.specs.StandsFor.{BookStandsFor}
 use Rattle.reg_journal.specs.Applicable.{applies, custom_domains, driver_code_of, global_domains, hints_of}
-use Rattle.reg_journal.specs.Due.{AreDue}
+use Rattle.reg_journal.specs.Due.{EachMayFollow}
 use Rattle.reg_journal.specs.Facts.{Journal}
 use Rattle.reg_journal.specs.Present.{Iface, Operation, ifaces_of, is_indoor, is_used, made_of, now_of, operation_of, profile_of}
 use Rattle.reg_journal.specs.Settled.{AreSettled}
 use Rattle.reg_core.specs.Calls.{calls_of}
 use Rattle.reg_core.specs.Slots.{slot_of}
-use Rattle.reg_core.specs.declared.core_parts.Core.{Core}
-use Rattle.reg_core.specs.declared.port.Port.{Port}
-use Rattle.reg_core.specs.declared.port.Running.{Running}
+use Rattle.reg_core.specs.declared.core_state.Core.{Core}
+use Rattle.reg_core.specs.declared.interface.Interface.{Interface}
+use Rattle.reg_core.specs.declared.interface.Running.{Running}
 use Rattle.reg_core.specs.declared.radio.Radio.{Radio}
-use Rattle.reg_core.specs.declared.radio.RadioSlot.{RadioSlot}
-use Rattle.reg_core.specs.declared.radio.RadioSlot.TheVariants.{Free, Removed, There}
+use Rattle.reg_core.specs.declared.radio.RadioPlace.{RadioPlace}
+use Rattle.reg_core.specs.declared.radio.RadioPlace.TheVariants.{Free, Removed, There}
 
 -- ---- interfaces
 
@@ -26,7 +26,7 @@ abbrev pub kept_operation : Operation → Running
 kept_operation o = record { chan = o.chan; power_mbm = o.power }
 
 -- what is kept of an interface: with its slot and its operation
-abbrev pub kept : Journal → Iface → Port
+abbrev pub kept : Journal → Iface → Interface
 kept J x = record {
   index = x.index;
   name = x.name;
@@ -38,12 +38,12 @@ kept J x = record {
 }
 
 -- the interfaces that are there, in order of creation
-abbrev pub ports_of : Journal → List Port
-ports_of J = map (kept J) (ifaces_of J)
+abbrev pub interfaces_of : Journal → List Interface
+interfaces_of J = map (kept J) (ifaces_of J)
 
 -- ---- radios
 
--- What is kept of a radio that is there: the rows of the domains that apply to it, the records of its channels, its own rules, its
+-- What is kept of a radio that is there: the rows of the domains that apply to it, the records of its channels, its custom rules, its
 -- driver's code, and a book of its checks and radar.
 pub record KeepsRadio (db : List Domain) (J : Journal) (r : ℕ) (radio : Radio) : Type 0 where
   pub profile : profile_of J r ≡ Some radio.chans.profile
@@ -54,26 +54,26 @@ pub record KeepsRadio (db : List Domain) (J : Journal) (r : ℕ) (radio : Radio)
   pub records : AreRecords (applies db J r) radio.chans.chans
   pub book : BookStandsFor radio.book (map (λ c. c.khz) radio.chans.chans) (calls_of db J r)
 
-abbrev pub KeepsSlot : List Domain → Journal → ℕ → RadioSlot → Type 0
-KeepsSlot db J r Free = is_used J r ≡ false
-KeepsSlot db J r Removed = (is_used J r ≡ true) × (profile_of J r ≡ None)
-KeepsSlot db J r (There radio) = (is_used J r ≡ true) × KeepsRadio db J r radio
+abbrev pub KeepsPlace : List Domain → Journal → ℕ → RadioPlace → Type 0
+KeepsPlace db J r Free = is_used J r ≡ false
+KeepsPlace db J r Removed = (is_used J r ≡ true) × (profile_of J r ≡ None)
+KeepsPlace db J r (There radio) = (is_used J r ≡ true) × KeepsRadio db J r radio
 
 -- the radio of a place, where it is there
-abbrev pub radio_in : RadioSlot → Option Radio
+abbrev pub radio_in : RadioPlace → Option Radio
 radio_in Free = None
 radio_in Removed = None
 radio_in (There radio) = Some radio
 
-abbrev pub KeepsRadios : List Domain → Journal → List RadioSlot → Type 0
-KeepsRadios db J slots = (r : ℕ) → r < 8 → KeepsSlot db J r (slice_index_or slots r Free)
+abbrev pub KeepsRadios : List Domain → Journal → List RadioPlace → Type 0
+KeepsRadios db J places = (r : ℕ) → r < 8 → KeepsPlace db J r (slice_index_or places r Free)
 
 -- ---- the core
 
 -- The core of the database stands for the journal: each fact of it came where it might, what the interfaces do may go on, and
 -- each part of the core is what the journal says.
 pub record StandsFor (db : List Domain) (core : Core) (J : Journal) : Type 0 where
-  pub due : AreDue db J
+  pub due : EachMayFollow db J
   pub settled : AreSettled db J
   pub domains : core.domains ≡ db
   pub clock : core.clock ≡ now_of J
@@ -82,4 +82,4 @@ pub record StandsFor (db : List Domain) (core : Core) (J : Journal) : Type 0 whe
   pub made : core.made ≡ made_of J
   pub global : IsTableOf (global_domains db J) core.global
   pub radios : KeepsRadios db J core.radios
-  pub ports : core.ports ≡ ports_of J
+  pub interfaces : core.interfaces ≡ interfaces_of J

@@ -23,9 +23,9 @@ use Rattle.reg_journal.specs.declared.reply.Reply.{Reply}
 use Rattle.reg_journal.specs.declared.reply.Reply.TheVariants.{Plain}
 use Rattle.reg_journal.specs.declared.request.Request.{Request}
 use Rattle.reg_journal.specs.declared.request.Request.TheVariants.{At, RadioAdd, UserHint, IfaceAdd, Start, Stop}
-use Rattle.reg_core.specs.Heard.{AllGoOn, AreDriven, Follows, HasFailed, driver_at}
+use Rattle.reg_core.specs.DriverRows.{AllGoOn, AreDriven, Follows, HasFailed, driver_at}
 use Rattle.reg_core.specs.Kept.{StandsFor}
-use Rattle.reg_core.specs.declared.core_parts.Core.{Core}
+use Rattle.reg_core.specs.declared.core_state.Core.{Core}
 
 abbrev pub is_failure : Refusal → Bool
 is_failure DriverFailed = true
@@ -45,10 +45,10 @@ is_refusal (Plain (Refused e) effects) = true
 is_refusal reply = false
 
 -- the core stays, and no driver was told anything; where one failed, all have on air what they had
-pub record ChangesNothing (old new : Core) (heard heard' : List (Option Seen)) (failed : Bool) : Type 0 where
+pub record ChangesNothing (old new : Core) (row row' : List (Option Seen)) (failed : Bool) : Type 0 where
   pub core : new ≡ old
-  pub untold : failed ≡ false → heard' ≡ heard
-  pub air : (r : ℕ) → option_map (λ s. s.air) (driver_at heard' r) ≡ option_map (λ s. s.air) (driver_at heard r)
+  pub untold : failed ≡ false → row' ≡ row
+  pub air : (r : ℕ) → option_map (λ s. s.air) (driver_at row' r) ≡ option_map (λ s. s.air) (driver_at row r)
 
 -- a start that is answered with a power was granted it
 abbrev pub IsStartGranted : List Domain → Journal → Request → Reply → Type 0
@@ -58,15 +58,15 @@ IsStartGranted db J q reply = Unit {0}
 -- The reply is the journal's, and the core stands for the next one. The drivers follow it where they did, and have on air what runs
 -- where they had. Where a driver failed, it is that of the request's radio, isn't steady, and its count rose in this step. A refusal
 -- changes nothing else.
-pub record OneStep (db : List Domain) (J : Journal) (q : Request) (old new : Core) (heard heard' : List (Option Seen)) (reply : Reply) : Type 0 where
+pub record OneStep (db : List Domain) (J : Journal) (q : Request) (old new : Core) (row row' : List (Option Seen)) (reply : Reply) : Type 0 where
   pub next : Journal
   pub steps : Steps db J q (is_failed reply) reply next
   pub stands : StandsFor db new next
-  pub follows : Follows J heard → Follows next heard'
-  pub driven : AreDriven J heard → AreDriven next heard'
-  pub cause : IsTrue (is_failed reply) → HasFailed J q heard heard'
-  pub drivers : AllGoOn J q reply heard heard'
-  pub refused : IsTrue (is_refusal reply) → ChangesNothing old new heard heard' (is_failed reply)
+  pub follows : Follows J row → Follows next row'
+  pub driven : AreDriven J row → AreDriven next row'
+  pub cause : IsTrue (is_failed reply) → HasFailed J q row row'
+  pub drivers : AllGoOn J q reply row row'
+  pub refused : IsTrue (is_refusal reply) → ChangesNothing old new row row' (is_failed reply)
   pub granted : IsStartGranted db J q reply
 
 -- ---- what is built
@@ -94,19 +94,19 @@ IsBuilt db J (Stop name Ap) = Unit {0}
 IsBuilt db J q = ⊥
 
 -- the request isn't answered yet: nothing changes
-pub record IsPutOff (old new : Core) (heard heard' : List (Option Seen)) (reply : Reply) : Type 0 where
+pub record IsPutOff (old new : Core) (row row' : List (Option Seen)) (reply : Reply) : Type 0 where
   pub reply_is : reply ≡ Plain (Refused NotBuilt) []
   pub core : new ≡ old
-  pub drivers : heard' ≡ heard
+  pub drivers : row' ≡ row
 
 -- what a step is over each journal that the core stands for
 abbrev pub IsStep : List Domain → Journal → Request → Core → Core → List (Option Seen) → List (Option Seen) → Reply → Type 0
-IsStep db J q old new heard heard' reply =
-    (IsBuilt db J q × OneStep db J q old new heard heard' reply) ⊎ ((IsBuilt db J q → ⊥) × IsPutOff old new heard heard' reply)
+IsStep db J q old new row row' reply =
+    (IsBuilt db J q × OneStep db J q old new row row' reply) ⊎ ((IsBuilt db J q → ⊥) × IsPutOff old new row row' reply)
 
 -- the core stands for a journal whose running operations are on air
-pub record IsReady (core : Core) (heard : List (Option Seen)) : Type 0 where
+pub record IsReady (core : Core) (row : List (Option Seen)) : Type 0 where
   pub db : List Domain
   pub journal : Journal
   pub stands : StandsFor db core journal
-  pub driven : AreDriven journal heard
+  pub driven : AreDriven journal row

@@ -4,7 +4,7 @@ use Rattle.reg_base.specs.Causes.{Rose}
 use Rattle.radio_drv.specs.Air.{HasPlace}
 use Rattle.radio_drv.specs.Seen.{Seen}
 use Rattle.radio_drv.specs.declared.on_air.OnAir.{OnAir}
-use Rattle.reg_core.specs.Heard.{driver_at}
+use Rattle.reg_core.specs.DriverRows.{driver_at}
 
 -- there is a driver, and it has a place for the interface of this index
 abbrev pub HasRoom : Option Seen → ℕ → Type 0
@@ -30,18 +30,18 @@ pub record Falters (s s' : Seen) : Type 0 where
   pub rose : Rose s.count s'.count
 
 -- the driver of a place does what it is told; where there is none, none comes
-abbrev pub Takes : (List OnAir → List OnAir) → Option Seen → Option Seen → Type 0
-Takes change (Some s) (Some s') = Turns change s s'
-Takes change None None = Unit {0}
-Takes change (Some s) None = ⊥
-Takes change None (Some s') = ⊥
+abbrev pub DriverTakes : (List OnAir → List OnAir) → Option Seen → Option Seen → Type 0
+DriverTakes change (Some s) (Some s') = Turns change s s'
+DriverTakes change None None = Unit {0}
+DriverTakes change (Some s) None = ⊥
+DriverTakes change None (Some s') = ⊥
 
 -- the driver of a place fails
-abbrev pub Fails : Option Seen → Option Seen → Type 0
-Fails (Some s) (Some s') = Falters s s'
-Fails o o' = ⊥
+abbrev pub DriverFails : Option Seen → Option Seen → Type 0
+DriverFails (Some s) (Some s') = Falters s s'
+DriverFails o o' = ⊥
 
 -- the place of the radio goes so, and no other driver hears of it
-pub record OneGoes (radio : ℕ) (how : Option Seen → Option Seen → Type 0) (heard heard' : List (Option Seen)) : Type 0 where
-  pub went : how (driver_at heard radio) (driver_at heard' radio)
-  pub rest : heard' ≡ slice_set heard radio (driver_at heard' radio)
+pub record OneGoes (radio : ℕ) (how : Option Seen → Option Seen → Type 0) (row row' : List (Option Seen)) : Type 0 where
+  pub went : how (driver_at row radio) (driver_at row' radio)
+  pub rest : row' ≡ slice_set row radio (driver_at row' radio)

@@ -2,64 +2,41 @@
 
 ghost use Rattle.std.specs.Prelude.{◌≡◌, [], ◌∷◌, ◌<◌, ◌≤◌, false, IsTrue, length};
 ghost use Rattle.std.specs.List.{list_any};
-ghost use Rattle.reg_journal.specs.Permits.{is_same_channel};
-ghost use Rattle.reg_core.specs.Contexts.{added};
+ghost use Rattle.chan_def.specs.Same.{is_same_channel};
+ghost use Rattle.reg_core.specs.inner.Contexts.{added};
 
 use chan_def::ChanDef;
-use std::marker::Model;
+use reg_lists::Few;
 
-/// As many channels as a radio may be on at once.
-const MOST: usize = 8;
+/// As many channels as a radio may be on at once, in the order in which they came.
+pub(crate) type ChanSet = Few<ChanDef, 8>;
 
-/// Up to eight channels, in the order in which they came.
-#[derive(Drop)]
-pub(crate) struct ChanSet {
-    chans: [ChanDef; MOST],
-    count: usize,
+/// This channel alone.
+pub(crate) fn only(chan: ChanDef) -> ChanSet
+    ensures { result ≡ chan ∷ [] }
+{
+    let mut chans = ChanSet::new(chan);
+    let _room = chans.push(chan);
+    chans
 }
 
-impl Model for ChanSet {
-    ghost use Rattle.std.specs.Prelude.{List, ◌≤◌, take};
-    ghost use Rattle.chan_def.specs.declared.definition.ChanDef.{ChanDef};
-
-    ghost Value = { List ChanDef };
-
-    ghost view = { λ s. take s.count s.chans };
-
-    ghost invariant = { λ s. s.count ≤ 8 };
-}
-
-impl ChanSet {
-    /// This channel alone.
-    pub(crate) fn one(chan: ChanDef) -> Self
-        ensures { result ≡ chan ∷ [] }
-    {
-        ChanSet {
-            chans: [chan; MOST],
-            count: 1,
-        }
+/// Adds the channel where it isn't among them. False where they would then be more than `most`: they
+/// stay as they are.
+pub(crate) fn add(chans: &mut ChanSet, chan: ChanDef, most: usize) -> bool
+    requires most { most ≤ 8 }
+    requires few { length chans.old ≤ most }
+    ensures added { IsTrue result → chans.new ≡ added chans.old chan }
+    ensures few { length chans.new ≤ most }
+    ensures full { result ≡ false → most < length (added chans.old chan) }
+    ensures stays { result ≡ false → chans.new ≡ chans.old }
+{
+    if is_among(chans.as_slice(), &chan) {
+        return true;
     }
-
-    /// Adds the channel where it isn't among them. False where they would then be more than `most`:
-    /// they stay as they are.
-    pub(crate) fn add(&mut self, chan: ChanDef, most: usize) -> bool
-        requires most { most ≤ 8 }
-        requires few { length self.old ≤ most }
-        ensures added { IsTrue result → self.new ≡ added self.old chan }
-        ensures few { length self.new ≤ most }
-        ensures full { result ≡ false → most < length (added self.old chan) }
-        ensures stays { result ≡ false → self.new ≡ self.old }
-    {
-        if is_among(&self.chans[..self.count], &chan) {
-            return true;
-        }
-        if self.chans[..self.count].len() == most {
-            return false;
-        }
-        self.chans[self.count] = chan;
-        self.count += 1;
-        true
+    if chans.len() == most {
+        return false;
     }
+    chans.push(chan)
 }
 
 /// Whether the channel is one of these.

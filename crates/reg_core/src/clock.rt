@@ -6,10 +6,10 @@ ghost use Rattle.reg_journal.specs.Causes.{IsFree};
 ghost use Rattle.reg_journal.specs.Facts.{Journal, moment_is};
 ghost use Rattle.reg_journal.specs.Present.{now_of};
 ghost use Rattle.reg_journal.specs.Refusals.{MomentCauses};
-ghost use Rattle.reg_core.specs.Deciding.{Declines, Takes};
+ghost use Rattle.reg_core.specs.inner.Deciding.{Declines, TakesFact};
 ghost use Rattle.reg_core.specs.Kept.{StandsFor};
 
-use crate::core_parts::Core;
+use crate::core_state::Core;
 use crate::declined::Declined;
 use crate::radios::advance_all;
 use reg_journal::Refusal;
@@ -35,7 +35,7 @@ impl Core {
     /// It is `now`, in ms.
     pub(crate) fn at(&mut self, now: u64) -> Result<(), Declined>
         ensures taken { (db : List Domain) (J : Journal) → StandsFor db self.old J → MatchResult result
-            (λ _. Takes db J (MomentCauses J now) (moment_is now) self.new)
+            (λ _. TakesFact db J (MomentCauses J now) (moment_is now) self.new)
             (Declines (MomentCauses J now) ⊥ self.old self.new) }
     {
         if let Some(refusal) = moment_refusal(self.clock, now) {

@@ -2,8 +2,8 @@
 
 ghost use Rattle.std.specs.Prelude.{◌≡◌};
 
-use freq_range::OutOfMemory;
 use reg_journal::Refusal;
+use reg_lists::OutOfMemory;
 
 /// Why a request changes nothing.
 #[derive(Clone, Copy, Debug, PartialEq, Eq)]

@@ -1,86 +1,27 @@
-//! The domains of a database, the world's where it doesn't say, and those of rules of one's own.
+//! The domains of a database, the world's where it doesn't say, and those of custom rules.
 
 ghost use Rattle.std.specs.Prelude.{◌≡◌, [], IfOk, IfSome, Some, find};
 ghost use Rattle.std.specs.Option.{option_copied};
-ghost use Rattle.reg_hints.specs.Last.{world};
-ghost use Rattle.reg_hints.specs.Table.{is_same_code};
-ghost use Rattle.reg_journal.specs.Applicable.{find_domain, own_domain, flags_of, world_domain, world_rule};
-ghost use Rattle.reg_core.specs.TableRules.{AreTableRules};
+ghost use Rattle.rule_tables.specs.World.{custom_domain, world};
+ghost use Rattle.rule_tables.specs.Code.{is_same_code};
+ghost use Rattle.reg_journal.specs.Applicable.{find_domain};
+ghost use Rattle.reg_core.specs.inner.TableRules.{AreTableRules};
 
-use freq_range::{OutOfMemory, Rule, RuleFlags, RuleList};
-use rule_tables::{Alpha2, Db, Domain, Region};
+use freq_range::RuleList;
+use reg_lists::OutOfMemory;
+use rule_tables::{Alpha2, Db, Domain};
 use std::alloc::Global;
 use std::marker::Model;
 
-/// The code of the world's domain.
-const WORLD: Alpha2 = Alpha2 { a: b'0', b: b'0' };
-
-/// The code of rules of one's own.
-const OWN: Alpha2 = Alpha2 { a: b'9', b: b'9' };
-
-/// A rule of the world's domain: 20 dBm, with these flags beside none.
-fn world_rule(
-    start_khz: u32,
-    end_khz: u32,
-    max_bw_khz: u32,
-    dfs: bool,
-    no_ir: bool,
-    auto_bw: bool,
-) -> Rule
-    ensures { result ≡ world_rule start_khz end_khz max_bw_khz (flags_of dfs no_ir auto_bw) }
-{
-    Rule {
-        start_khz,
-        end_khz,
-        max_bw_khz,
-        flags: RuleFlags {
-            no_ofdm: false,
-            no_outdoor: false,
-            dfs,
-            no_ir,
-            auto_bw,
-        },
-        eirp_mbm: 2000,
-        cac_s: 0,
-        wmm: None,
-    }
-}
-
-/// What holds for the world where the database doesn't say.
-fn world_domain(alloc: Global) -> Result<Domain, OutOfMemory>
-    ensures { IfOk result (λ domain. domain ≡ world_domain) }
-{
-    let mut rules = RuleList::new(alloc);
-    rules.push(world_rule(2_402_000, 2_472_000, 40_000, false, false, false))?;
-    rules.push(world_rule(5_170_000, 5_250_000, 80_000, false, true, true))?;
-    rules.push(world_rule(5_250_000, 5_330_000, 80_000, true, true, true))?;
-    Ok(Domain {
-        alpha2: WORLD,
-        region: Region::Unset,
-        rules,
-    })
-}
-
-/// Rules of one's own as a domain. Without rules it permits nothing.
-fn own_domain(rules: RuleList) -> Domain
-    ensures { result ≡ own_domain rules }
-{
-    Domain {
-        alpha2: OWN,
-        region: Region::Unset,
-        rules,
-    }
-}
-
-/// A radio's own rules, as a domain.
+/// A radio's custom rules, as a domain.
 #[derive(Drop)]
-pub(crate) struct OwnRules {
+pub(crate) struct CustomRules {
     domain: Domain,
 }
 
-impl Model for OwnRules {
+impl Model for CustomRules {
     ghost use Rattle.rule_tables.specs.declared.domain.Domain.{Domain};
-    ghost use Rattle.reg_core.specs.TableRules.{AreTableRules};
+    ghost use Rattle.reg_core.specs.inner.TableRules.{AreTableRules};
 
     ghost Value = { Domain };
 
@@ -89,13 +30,13 @@ impl Model for OwnRules {
     ghost invariant = { λ o. AreTableRules o.domain.rules };
 }
 
-impl OwnRules {
-    pub(crate) fn new(rules: RuleList) -> OwnRules
+impl CustomRules {
+    pub(crate) fn new(rules: RuleList) -> CustomRules
         requires { AreTableRules rules }
-        ensures { result ≡ own_domain rules }
+        ensures { result ≡ custom_domain rules }
     {
-        OwnRules {
-            domain: own_domain(rules),
+        CustomRules {
+            domain: Domain::custom(rules),
         }
     }
 
@@ -129,7 +70,7 @@ pub(crate) struct Domains {
 impl Model for Domains {
     ghost use Rattle.std.specs.Prelude.{List};
     ghost use Rattle.rule_tables.specs.declared.domain.Domain.{Domain};
-    ghost use Rattle.reg_core.specs.Worlds.{AreAtHand};
+    ghost use Rattle.reg_core.specs.inner.Worlds.{AreAtHand};
 
     ghost Value = { List Domain };
 
@@ -145,8 +86,8 @@ impl Domains {
     {
         Ok(Domains {
             db,
-            world: world_domain(alloc)?,
-            nothing: own_domain(RuleList::new(alloc)),
+            world: Domain::world(alloc)?,
+            nothing: Domain::custom(RuleList::new(alloc)),
         })
     }
 
@@ -157,7 +98,7 @@ impl Domains {
     {
         match stored(&self.db, alpha2) {
             Some(domain) => Some(domain),
-            None if alpha2.is_same(&WORLD) => Some(&self.world),
+            None if alpha2.is_same(&Alpha2::WORLD) => Some(&self.world),
             None => None,
         }
     }
@@ -167,7 +108,7 @@ impl Domains {
         ensures domain { find_domain self.now world ≡ Some result.now }
         ensures rules { AreTableRules result.now.rules }
     {
-        match stored(&self.db, WORLD) {
+        match stored(&self.db, Alpha2::WORLD) {
             Some(domain) => domain,
             None => &self.world,
         }
@@ -175,7 +116,7 @@ impl Domains {
 
     /// The domain that permits nothing.
     pub(crate) fn nothing(&self) -> &Domain
-        ensures nothing { result.now ≡ own_domain [] }
+        ensures nothing { result.now ≡ custom_domain [] }
         ensures rules { AreTableRules result.now.rules }
     {
         &self.nothing

@@ -7,18 +7,18 @@ ghost use Rattle.reg_journal.specs.Applicable.{hints_of};
 ghost use Rattle.reg_journal.specs.Facts.{Journal, hinted};
 ghost use Rattle.reg_journal.specs.Refusals.{HintCauses, RowCauses};
 ghost use Rattle.rule_intersect.specs.declared.fault.ResolveFault.TheVariants.{OutOfMemory};
-ghost use Rattle.reg_core.specs.Deciding.{IsCore, IsReason};
+ghost use Rattle.reg_core.specs.inner.Deciding.{IsCore, IsReason};
 ghost use Rattle.reg_core.specs.declared.declined.Declined.TheVariants.{OutOfMemory as NoMemory};
-ghost use Rattle.reg_core.specs.Hinting.{AreNewTables, IsRowsFault, lists_after};
+ghost use Rattle.reg_core.specs.inner.Hinting.{AreNewTables, IsRowsFault, lists_after};
 ghost use Rattle.reg_core.specs.Kept.{KeepsRadios, StandsFor};
-ghost use Rattle.reg_core.specs.Lists.{global_by};
-ghost use Rattle.reg_core.specs.Outcomes.{AreHintTables, IsOutcome};
+ghost use Rattle.reg_core.specs.inner.Lists.{global_by};
+ghost use Rattle.reg_core.specs.inner.Outcomes.{AreHintTables, IsOutcome};
 
-use crate::core_parts::Core;
+use crate::core_state::Core;
 use crate::declined::Declined;
 use crate::domains::Domains;
 use crate::hinting::{new_tables, retune_all};
-use crate::radio::RadioSlot;
+use crate::radio::RadioPlace;
 use crate::tables::global_table;
 use reg_hints::{Hint, Hints, Treatment};
 use reg_journal::Refusal;
@@ -50,7 +50,7 @@ fn hint_tables(
     domains: &Domains,
     after: &Hints,
     hint: &Hint,
-    radios: &[RadioSlot],
+    radios: &[RadioPlace],
 ) -> Result<HintTables, ResolveFault>
     requires some { 0 < length (global_by domains.now after.now) }
     ensures tables { IfOk result (AreHintTables domains.now after.now hint.now radios.now) }
@@ -88,7 +88,7 @@ impl Core {
         let Ok(treatment) = hints.apply(hint) else {
             return Err(Declined::Refused(Refusal::TooManyDomains));
         };
-        let alloc = self.ports.allocator();
+        let alloc = self.interfaces.allocator();
         match hint_tables(alloc, &self.domains, &hints, hint, &self.radios) {
             Ok(tables) => Ok(HintOutcome {
                 treatment,

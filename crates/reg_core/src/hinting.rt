@@ -5,11 +5,11 @@ ghost use Rattle.std.specs.Prelude.{◌≡◌, ◌∷◌, ℕ, IfErr, IfOk, Matc
 ghost use Rattle.reg_hints.specs.Table.{Treated};
 ghost use Rattle.reg_journal.specs.Applicable.{hints_of};
 ghost use Rattle.reg_journal.specs.Facts.{Journal, hinted};
-ghost use Rattle.reg_core.specs.Hinting.{AreNewTables, IsNewTable, IsNewTableFault, IsRowsFault, driver_after, lists_after};
-ghost use Rattle.reg_core.specs.Kept.{KeepsRadios, KeepsSlot};
+ghost use Rattle.reg_core.specs.inner.Hinting.{AreNewTables, IsNewTable, IsNewTableFault, IsRowsFault, driver_after, lists_after};
+ghost use Rattle.reg_core.specs.Kept.{KeepsRadios, KeepsPlace};
 
 use crate::domains::Domains;
-use crate::radio::RadioSlot;
+use crate::radio::RadioPlace;
 use crate::regions::{is_moved, region_of};
 use crate::tables::radio_table;
 use reg_hints::{Hint, Hints};
@@ -34,11 +34,11 @@ fn new_table(
     after: &Hints,
     hint: &Hint,
     number: usize,
-    slot: &RadioSlot,
+    place: &RadioPlace,
 ) -> Result<Option<Table>, ResolveFault>
-    ensures { MatchResult result (IsNewTable domains.now after.now hint.now number slot.now) (IsNewTableFault domains.now after.now hint.now number slot.now) }
+    ensures { MatchResult result (IsNewTable domains.now after.now hint.now number place.now) (IsNewTableFault domains.now after.now hint.now number place.now) }
 {
-    let RadioSlot::There(radio) = slot else {
+    let RadioPlace::There(radio) = place else {
         return Ok(None);
     };
     let self_managed = radio.chans.profile().self_managed();
@@ -61,21 +61,21 @@ pub(crate) fn new_tables(
     domains: &Domains,
     after: &Hints,
     hint: &Hint,
-    radios: &[RadioSlot],
+    radios: &[RadioPlace],
 ) -> Result<Vec<Option<Table>>, ResolveFault>
     ensures tables { IfOk result (λ tables. AreNewTables domains.now after.now hint.now radios.now tables.items) }
     ensures fault { IfErr result (IsRowsFault (lists_after domains.now after.now hint.now 0 radios.now)) }
 {
     let mut tables = Vec::with_capacity(alloc, radios.len())?;
-    for (number, slot) in radios.iter().enumerate() {
-        tables.push(new_table(alloc, domains, after, hint, number, slot)?)?;
+    for (number, place) in radios.iter().enumerate() {
+        tables.push(new_table(alloc, domains, after, hint, number, place)?)?;
     }
     Ok(tables)
 }
 
 /// The hint came, and leaves the place with this table.
-fn retune_slot(
-    slot: &mut RadioSlot,
+fn retune_place(
+    place: &mut RadioPlace,
     number: usize,
     table: Option<Table>,
     domains: &Domains,
@@ -83,11 +83,11 @@ fn retune_slot(
     after: &Hints,
     hint: &Hint,
 )
-    requires table { IsNewTable domains.now after.now hint.now number slot.old table }
-    ensures kept { (J : Journal) → KeepsSlot domains.now J number slot.old → hints_of J ≡ before.now → hints_of (hinted (Treated hint.now) ∷ J) ≡ after.now
-        → KeepsSlot domains.now (hinted (Treated hint.now) ∷ J) number slot.new }
+    requires table { IsNewTable domains.now after.now hint.now number place.old table }
+    ensures kept { (J : Journal) → KeepsPlace domains.now J number place.old → hints_of J ≡ before.now → hints_of (hinted (Treated hint.now) ∷ J) ≡ after.now
+        → KeepsPlace domains.now (hinted (Treated hint.now) ∷ J) number place.new }
 {
-    let RadioSlot::There(radio) = slot else {
+    let RadioPlace::There(radio) = place else {
         return;
     };
     let Some(table) = table else {
@@ -103,7 +103,7 @@ fn retune_slot(
 /// The hint came, which led from the hints `before` to the hints `after`, and leaves the radios with
 /// their new tables.
 pub(crate) fn retune_all(
-    radios: &mut [RadioSlot],
+    radios: &mut [RadioPlace],
     tables: Vec<Option<Table>>,
     domains: &Domains,
     before: &Hints,
@@ -117,7 +117,7 @@ pub(crate) fn retune_all(
     let mut tables = tables;
     'places: while let Some(table) = tables.pop() {
         let number = tables.len();
-        retune_slot(
+        retune_place(
             &mut radios[number],
             number,
             table,

@@ -4,16 +4,16 @@ ghost use Rattle.std.specs.Prelude.{◌≡◌, ◌+◌, List, MatchOption, Match
 ghost use Rattle.rule_tables.specs.declared.domain.Domain.{Domain};
 ghost use Rattle.reg_journal.specs.Causes.{IsFree};
 ghost use Rattle.chan_def.specs.declared.kind.Kind.{Kind};
-ghost use Rattle.reg_journal.specs.Due.{IsDue};
+ghost use Rattle.reg_journal.specs.Due.{MayFollow};
 ghost use Rattle.reg_journal.specs.Facts.{Journal, made};
 ghost use Rattle.reg_journal.specs.Present.{made_of};
 ghost use Rattle.reg_journal.specs.Refusals.{IfaceAddCauses};
-ghost use Rattle.reg_core.specs.Deciding.{Declines, IsCore, Takes};
+ghost use Rattle.reg_core.specs.inner.Deciding.{Declines, IsCore, TakesFact};
 ghost use Rattle.reg_core.specs.Kept.{StandsFor};
 
-use crate::core_parts::Core;
+use crate::core_state::Core;
 use crate::declined::Declined;
-use crate::port::{Port, count_on, free_slot_on, port_named};
+use crate::interface::{Interface, count_on, free_slot_on, interface_named};
 use crate::radios::radio_at;
 use chan_def::Kind;
 use chan_flags::PowerSetting;
@@ -28,18 +28,18 @@ impl Core {
     /// Why the interface can't come to the radio.
     fn iface_refusal(&self, radio: RadioNo, name: &Name) -> Option<Refusal>
         ensures due { (db : List Domain) (J : Journal) → StandsFor db self.now J
-            → MatchOption result ((kind : Kind) → IsDue db J (made (made_of J + 1) name.now radio kind)) (λ _. Unit {0}) }
+            → MatchOption result ((kind : Kind) → MayFollow db J (made (made_of J + 1) name.now radio kind)) (λ _. Unit {0}) }
         ensures first { (db : List Domain) (J : Journal) → StandsFor db self.now J
             → MatchOption result (IsFree (IfaceAddCauses J radio name.now)) (IfaceAddCauses J radio name.now) }
     {
         let Some(_radio) = radio_at(&self.radios, radio) else {
             return Some(Refusal::NoRadio(radio));
         };
-        let ports = self.ports.as_slice();
-        if let Some(_port) = port_named(ports, name) {
+        let interfaces = self.interfaces.as_slice();
+        if let Some(_interface) = interface_named(interfaces, name) {
             return Some(Refusal::NameTaken(*name));
         }
-        if count_on(ports, radio) >= MOST_ON_RADIO || self.made >= u32::MAX {
+        if count_on(interfaces, radio) >= MOST_ON_RADIO || self.made >= u32::MAX {
             return Some(Refusal::Full);
         }
         None
@@ -54,23 +54,23 @@ impl Core {
     ) -> Result<(), Declined>
         requires core { IsCore self.old }
         ensures taken { (db : List Domain) (J : Journal) → StandsFor db self.old J → MatchResult result
-            (λ _. Takes db J (IfaceAddCauses J radio name) (made (made_of J + 1) name radio kind) self.new)
+            (λ _. TakesFact db J (IfaceAddCauses J radio name) (made (made_of J + 1) name radio kind) self.new)
             (Declines (IfaceAddCauses J radio name) ⊥ self.old self.new) }
     {
         if let Some(refusal) = self.iface_refusal(radio, &name) {
             return Err(Declined::Refused(refusal));
         }
         let index = self.made + 1;
-        let port = Port {
+        let interface = Interface {
             index,
             name,
             radio,
-            slot: free_slot_on(self.ports.as_slice(), radio),
+            slot: free_slot_on(self.interfaces.as_slice(), radio),
             kind,
             setting: PowerSetting::Auto,
             operation: None,
         };
-        self.ports.push(port)?;
+        self.interfaces.push(interface)?;
         self.made = index;
         Ok(())
     }

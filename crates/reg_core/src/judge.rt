@@ -11,10 +11,10 @@ ghost use Rattle.reg_journal.specs.Facts.{Journal};
 ghost use Rattle.reg_journal.specs.Granted.{IsGranted, IsPermitted};
 ghost use Rattle.reg_journal.specs.Permits.{asked_by, BarsOperation, EndsOperation};
 ghost use Rattle.reg_journal.specs.Present.{Iface};
-ghost use Rattle.reg_core.specs.Judging.{HasVerdict, IsJudged, is_lacking};
+ghost use Rattle.reg_core.specs.inner.Judging.{HasVerdict, IsJudged, is_lacking};
 
 use crate::contexts::passes_contexts;
-use crate::port::Port;
+use crate::interface::Interface;
 use crate::radar::{radar_refusal, unchecked_refusal};
 use crate::radio::Radio;
 use chan_def::{ChanDef, Kind};
@@ -77,19 +77,21 @@ pub(crate) fn permit(
 /// The power in mBm with which the interface may start on the channel, or the first refusal. Whether the
 /// radio has a context is asked after its channels and its width, and before the rules.
 pub(crate) fn judge(
-    port: &Port,
-    ports: &[Port],
+    interface: &Interface,
+    interfaces: &[Interface],
     radio: &Radio,
     indoor: bool,
     chan: &ChanDef,
 ) -> Result<u16, Refusal>
     requires { IsValidDef chan.now }
-    ensures { (db : List Domain) (J : Journal) (x : Iface) → IsJudged db J x port.now ports.now radio.now indoor
+    ensures { (db : List Domain) (J : Journal) (x : Iface) → IsJudged db J x interface.now interfaces.now radio.now indoor
         → MatchResult result (IsGranted db J x chan.now) (BarsOperation db J x chan.now) }
 {
-    let verdict = radio.chans.verdict(chan, port.kind, indoor, port.setting);
-    if !is_lacking(verdict) && passes_contexts(port, ports, radio, chan) {
+    let verdict = radio
+        .chans
+        .verdict(chan, interface.kind, indoor, interface.setting);
+    if !is_lacking(verdict) && passes_contexts(interface, interfaces, radio, chan) {
         return Err(Refusal::RadioLacksContext(radio.chans.profile().contexts()));
     }
-    permit(verdict, port.kind, radio, chan)
+    permit(verdict, interface.kind, radio, chan)
 }

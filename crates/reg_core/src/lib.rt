@@ -5,7 +5,7 @@
 mod chan_set;
 mod clock;
 mod contexts;
-mod core_parts;
+mod core_state;
 mod declined;
 mod domains;
 mod drivers;
@@ -13,10 +13,10 @@ mod hint_outcomes;
 mod hinting;
 mod iface_adding;
 mod in_use;
+mod initial;
+mod interface;
 mod judge;
 mod laws;
-mod opening;
-mod port;
 mod radar;
 mod radio;
 mod radio_adding;
@@ -28,8 +28,8 @@ mod stopping;
 mod tables;
 mod user_hints;
 
-pub use core_parts::Core;
-pub use drivers::Drivers;
+pub use core_state::Core;
+pub use drivers::{DriverRow, Drivers};
 pub use laws::{
     books_are_told_what_journals_say, books_of_added_radios_are_blank, indexes_name_interfaces,
     interfaces_have_their_slots, what_operates_is_on_air,

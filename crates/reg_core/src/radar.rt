@@ -9,7 +9,7 @@ ghost use Rattle.reg_journal.specs.Facts.{Journal};
 ghost use Rattle.reg_journal.specs.Permits.{IsBoundOn, LacksCheck, LacksRadarWidth, MetRadar, width_mhz};
 ghost use Rattle.reg_journal.specs.Present.{Iface};
 ghost use Rattle.reg_journal.specs.Radar.{IsState};
-ghost use Rattle.reg_core.specs.Demands.{AllMeet, AllMeetFor, Fails, HasRadarWidth, HasRules, IsNarrowEnough, IsTooWide, Meets};
+ghost use Rattle.reg_core.specs.inner.Demands.{AllMeet, AllMeetFor, FailsDemand, HasRadarWidth, HasRules, IsNarrowEnough, IsTooWide, MeetsDemand};
 ghost use Rattle.reg_core.specs.declared.radar.Demand.TheVariants.{Clear, Quiet};
 
 use crate::radio::Radio;
@@ -34,7 +34,7 @@ pub(crate) enum Demand {
 /// Whether a subchannel in this state meets the demand.
 fn meets(demand: Demand, state: Dfs) -> bool
     ensures { (db : List Domain) (J : Journal) (r s : ℕ) → IsState db J r s state
-        → MatchBool result (Meets db J r demand s) (Meets db J r demand s → ⊥) }
+        → MatchBool result (MeetsDemand db J r demand s) (MeetsDemand db J r demand s → ⊥) }
 {
     match demand {
         Demand::Absent => false,
@@ -47,7 +47,7 @@ fn meets(demand: Demand, state: Dfs) -> bool
 /// demand.
 fn fails(radio: &Radio, chan: &ChanDef, demand: Demand, khz: u32) -> bool
     ensures { (db : List Domain) (J : Journal) (r : ℕ) → HasRules db J r radio.now chan.now → IsCovered chan.now khz
-        → MatchBool result (Fails db J r demand khz) (IsBoundOn db J r khz → Meets db J r demand khz) }
+        → MatchBool result (FailsDemand db J r demand khz) (IsBoundOn db J r khz → MeetsDemand db J r demand khz) }
 {
     radio.chans.is_bound(khz) && !meets(demand, radio.book.state(khz))
 }
@@ -57,7 +57,7 @@ fn fails(radio: &Radio, chan: &ChanDef, demand: Demand, khz: u32) -> bool
 pub(crate) fn lowest_failing(radio: &Radio, chan: &ChanDef, demand: Demand) -> Option<u32>
     requires { IsValidDef chan.now }
     ensures { (db : List Domain) (J : Journal) (r : ℕ) → HasRules db J r radio.now chan.now
-        → MatchOption result (AllMeet db J r demand chan.now) (BarsFirst (Fails db J r demand) chan.now) }
+        → MatchOption result (AllMeet db J r demand chan.now) (BarsFirst (FailsDemand db J r demand) chan.now) }
 {
     for i in 0..MOST_SUBCHANNELS {
         let khz = subchannels(chan, i)?;

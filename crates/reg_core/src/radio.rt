@@ -2,12 +2,12 @@
 
 ghost use Rattle.std.specs.Prelude.{◌≡◌, IfOk, map};
 
-use crate::domains::{Domains, OwnRules};
+use crate::domains::{CustomRules, Domains};
 use crate::tables::new_radio_table;
 use chan_flags::{Profile, RadioChans};
 use dfs_states::DfsBook;
-use freq_range::OutOfMemory;
 use reg_hints::Hints;
+use reg_lists::OutOfMemory;
 use rule_intersect::Table;
 use rule_tables::Alpha2;
 use std::alloc::Global;
@@ -15,8 +15,8 @@ use std::alloc::Global;
 /// What is kept of a radio.
 #[derive(Drop)]
 pub(crate) struct Radio {
-    /// Its own rules, as a domain.
-    pub(crate) custom: Option<OwnRules>,
+    /// Its custom rules, as a domain.
+    pub(crate) custom: Option<CustomRules>,
     /// The code of its driver's last hint.
     pub(crate) driver: Option<Alpha2>,
     /// The rows of the domains that apply to it.
@@ -27,7 +27,7 @@ pub(crate) struct Radio {
 
 /// The place of a radio's number.
 #[derive(Drop)]
-pub(crate) enum RadioSlot {
+pub(crate) enum RadioPlace {
     /// No radio was there yet.
     Free,
     /// The radio has gone, and its number with it.
@@ -53,18 +53,20 @@ impl Radio {
     ghost use Rattle.freq_range.specs.declared.rule.Rule.{Rule};
     ghost use Rattle.rule_intersect.specs.Tables.{IsTableOf};
     ghost use Rattle.reg_hints.specs.Table.{Hinted};
-    ghost use Rattle.reg_journal.specs.Applicable.{applies, driver_code_of, hints_of, is_same_region, own_domain, region_of};
-    ghost use Rattle.reg_journal.specs.Due.{AreDue};
+    ghost use Rattle.rule_tables.specs.World.{custom_domain};
+    ghost use Rattle.rule_tables.specs.Regions.{is_same_region};
+    ghost use Rattle.reg_journal.specs.Applicable.{applies, driver_code_of, hints_of, region_of};
+    ghost use Rattle.reg_journal.specs.Due.{EachMayFollow};
     ghost use Rattle.reg_journal.specs.Facts.{hinted, radio_added, rules_are};
     ghost use Rattle.reg_journal.specs.Present.{now_of};
-    ghost use Rattle.reg_core.specs.Lists.{global_by};
-    ghost use Rattle.reg_core.specs.Making.{HasTable};
+    ghost use Rattle.reg_core.specs.inner.Lists.{global_by};
+    ghost use Rattle.reg_core.specs.inner.Making.{HasTable};
     ghost use Rattle.rule_tables.specs.declared.domain.Domain.{Domain};
-    ghost use Rattle.reg_journal.specs.Due.{IsDue};
+    ghost use Rattle.reg_journal.specs.Due.{MayFollow};
     ghost use Rattle.reg_journal.specs.Facts.{Journal, moment_is};
     ghost use Rattle.reg_core.specs.Kept.{KeepsRadio};
 
-    /// A new radio at the present moment, in ms. It has neither rules of its own nor a driver's hint.
+    /// A new radio at the present moment, in ms. It has neither custom rules nor a driver's hint.
     pub(crate) fn new(
         alloc: Global,
         domains: &Domains,
@@ -75,7 +77,7 @@ impl Radio {
         requires time { now ≤ 10 ^ 15 }
         requires global { HasTable (global_by domains.now hints.now) }
         ensures kept { IfOk result (λ radio. (J : Journal) (r : ℕ) → hints_of J ≡ hints.now → now_of J ≡ now → driver_code_of J r ≡ None
-            → AreDue domains.now (radio_added r profile ∷ J) → KeepsRadio domains.now (radio_added r profile ∷ J) r radio) }
+            → EachMayFollow domains.now (radio_added r profile ∷ J) → KeepsRadio domains.now (radio_added r profile ∷ J) r radio) }
     {
         let table = new_radio_table(alloc, domains, hints, profile.self_managed())?;
         let mut chans = RadioChans::new(alloc, profile)?;
@@ -108,10 +110,10 @@ impl Radio {
         }
     }
 
-    /// It has these rules of its own from now on, and the rows of the list that then applies.
-    pub(crate) fn rule(&mut self, custom: OwnRules, table: Table)
+    /// It has these custom rules from now on, and the rows of the list that then applies.
+    pub(crate) fn rule(&mut self, custom: CustomRules, table: Table)
         ensures kept { (db : List Domain) (J : Journal) (r : ℕ) (rules : List Rule) → KeepsRadio db J r self.old
-            → custom ≡ own_domain rules → IsTableOf (applies db (rules_are r rules ∷ J) r) table
+            → custom ≡ custom_domain rules → IsTableOf (applies db (rules_are r rules ∷ J) r) table
             → KeepsRadio db (rules_are r rules ∷ J) r self.new }
     {
         self.custom = Some(custom);
@@ -122,37 +124,37 @@ impl Radio {
     /// It is `now`, in ms, which isn't earlier than before.
     pub(crate) fn advance(&mut self, now: u64)
         requires { now ≤ 10 ^ 15 }
-        ensures kept { (db : List Domain) (J : Journal) (r : ℕ) → KeepsRadio db J r self.old → IsDue db J (moment_is now)
+        ensures kept { (db : List Domain) (J : Journal) (r : ℕ) → KeepsRadio db J r self.old → MayFollow db J (moment_is now)
             → KeepsRadio db (moment_is now ∷ J) r self.new }
     {
         self.book.advance(now);
     }
 }
 
-impl RadioSlot {
+impl RadioPlace {
     ghost use Rattle.std.specs.Prelude.{◌≡◌, ◌↔◌, ◌∷◌, ◌≤◌, ◌^◌, ℕ, false, IsTrue, List};
     ghost use Rattle.std.specs.Option.{option_copied};
     ghost use Rattle.rule_tables.specs.declared.domain.Domain.{Domain};
-    ghost use Rattle.reg_journal.specs.Due.{IsDue};
+    ghost use Rattle.reg_journal.specs.Due.{MayFollow};
     ghost use Rattle.reg_journal.specs.Facts.{Journal, moment_is};
     ghost use Rattle.reg_journal.specs.Present.{is_used};
-    ghost use Rattle.reg_core.specs.Kept.{KeepsSlot, radio_in};
+    ghost use Rattle.reg_core.specs.Kept.{KeepsPlace, radio_in};
 
     pub(crate) fn advance(&mut self, now: u64)
         requires { now ≤ 10 ^ 15 }
-        ensures kept { (db : List Domain) (J : Journal) (r : ℕ) → KeepsSlot db J r self.old → IsDue db J (moment_is now)
-            → KeepsSlot db (moment_is now ∷ J) r self.new }
+        ensures kept { (db : List Domain) (J : Journal) (r : ℕ) → KeepsPlace db J r self.old → MayFollow db J (moment_is now)
+            → KeepsPlace db (moment_is now ∷ J) r self.new }
     {
-        if let RadioSlot::There(radio) = self {
+        if let RadioPlace::There(radio) = self {
             radio.advance(now);
         }
     }
 
     /// Whether no radio was there yet.
     pub(crate) fn is_free(&self) -> bool
-        ensures { (db : List Domain) (J : Journal) (r : ℕ) → KeepsSlot db J r self.now → IsTrue result ↔ (is_used J r ≡ false) }
+        ensures { (db : List Domain) (J : Journal) (r : ℕ) → KeepsPlace db J r self.now → IsTrue result ↔ (is_used J r ≡ false) }
     {
-        matches!(self, RadioSlot::Free)
+        matches!(self, RadioPlace::Free)
     }
 
     /// The radio, where it is there.
@@ -160,8 +162,8 @@ impl RadioSlot {
         ensures { option_copied result ≡ radio_in self.now }
     {
         match self {
-            RadioSlot::There(radio) => Some(radio),
-            RadioSlot::Free | RadioSlot::Removed => None,
+            RadioPlace::There(radio) => Some(radio),
+            RadioPlace::Free | RadioPlace::Removed => None,
         }
     }
 }

@@ -3,9 +3,9 @@
 ghost use Rattle.std.specs.Prelude.{◌≡◌, ◌++◌, List, not};
 ghost use Rattle.std.specs.Option.{option_copied, option_to_list};
 ghost use Rattle.rule_tables.specs.declared.domain.Domain.{Domain};
-ghost use Rattle.reg_journal.specs.Applicable.{is_same_region};
-ghost use Rattle.reg_core.specs.Lists.{region_by, shared_by};
-ghost use Rattle.reg_core.specs.RegionSoFar.{IsRegionSoFar};
+ghost use Rattle.rule_tables.specs.Regions.{is_same_region};
+ghost use Rattle.reg_core.specs.inner.Lists.{region_by, shared_by};
+ghost use Rattle.reg_core.specs.inner.RegionSoFar.{IsRegionSoFar};
 
 use crate::domains::Domains;
 use crate::tables::driver_of;
@@ -50,7 +50,7 @@ fn shared_region(domains: &Domains, hints: &Hints, self_managed: bool) -> Option
 }
 
 /// The region of a radio, which may manage itself, with the code of its driver's last hint
-/// (`reg_get_dfs_region`). Its own rules have none.
+/// (`reg_get_dfs_region`). Custom rules have none.
 pub(crate) fn region_of(
     domains: &Domains,
     hints: &Hints,

@@ -1,29 +1,28 @@
 //! One step of the core.
 
-ghost use Rattle.std.specs.Prelude.{◌≡◌, [], ℕ, List, Option, IfOk, OnErr, map};
-ghost use Rattle.std.specs.Option.{option_map};
+ghost use Rattle.std.specs.Prelude.{◌≡◌, [], ℕ, List, Option, IfOk, OnErr};
 ghost use Rattle.rule_tables.specs.declared.domain.Domain.{Domain};
 ghost use Rattle.chan_def.specs.declared.kind.Kind.TheVariants.{Ap};
 ghost use Rattle.chan_flags.specs.Profiles.{IsProfile};
-ghost use Rattle.radio_drv.specs.Seen.{Seen, seen};
+ghost use Rattle.radio_drv.specs.Seen.{Seen};
 ghost use Rattle.reg_journal.specs.Facts.{Journal};
 ghost use Rattle.reg_journal.specs.Replies.{IsAskable};
 ghost use Rattle.reg_journal.specs.declared.reply.Reply.TheVariants.{Plain};
 ghost use Rattle.reg_journal.specs.declared.request.Request.TheVariants.{At, RadioAdd, UserHint, IfaceAdd, Start, Stop};
-ghost use Rattle.reg_core.specs.Deciding.{IsCore, IsReplyOf};
+ghost use Rattle.reg_core.specs.inner.Deciding.{IsCore, IsReplyOf};
 ghost use Rattle.reg_core.specs.Kept.{StandsFor};
 ghost use Rattle.reg_core.specs.Stepping.{IsReady, IsStep};
 
-use crate::core_parts::Core;
+use crate::core_state::Core;
 use crate::declined::Declined;
-use crate::drivers::Drivers;
+use crate::drivers::DriverRow;
 use crate::starting::StartFault;
 use chan_def::{ChanDef, Kind};
 use chan_flags::Profile;
-use freq_range::OutOfMemory;
 use radio_drv::Name;
 use reg_hints::RadioNo;
 use reg_journal::{Answer, Effects, HintAnswer, Refusal, Reply, Request};
+use reg_lists::OutOfMemory;
 use rule_tables::Alpha2;
 
 /// The answer, which nothing else came of.
@@ -49,32 +48,36 @@ fn declined_reply(declined: Declined) -> Result<Reply, OutOfMemory>
 
 impl Core {
     /// Answers one request (`NL80211_CMD_*`). `OutOfMemory` changes nothing.
-    pub fn step(&mut self, request: &Request, drivers: &mut Drivers) -> Result<Reply, OutOfMemory>
-        requires ready { IsReady self.old (map (λ o. option_map (λ b. seen (on_air b) (told b) (count b) (steady b)) o) drivers.old.items) }
+    pub fn step<D: DriverRow>(
+        &mut self,
+        request: &Request,
+        drivers: &mut D,
+    ) -> Result<Reply, OutOfMemory>
+        requires ready { IsReady self.old (D.seen drivers.old) }
         requires askable { IsAskable request.now }
         // The reply is the journal's and the core stands for the next one, whatever journal it stood for; a request that isn't built
         // yet changes nothing.
         ensures step { IfOk result (λ reply. (db : List Domain) (J : Journal) → StandsFor db self.old J → IsStep db J request.now self.old self.new
-            (map (λ o. option_map (λ b. seen (on_air b) (told b) (count b) (steady b)) o) drivers.old.items)
-            (map (λ o. option_map (λ b. seen (on_air b) (told b) (count b) (steady b)) o) drivers.new.items) reply) }
+            (D.seen drivers.old) (D.seen drivers.new) reply) }
         ensures core_stays { OnErr result (self.new ≡ self.old) }
-        ensures drivers_stay { OnErr result (map (λ o. option_map (λ b. seen (on_air b) (told b) (count b) (steady b)) o) drivers.new.items
-            ≡ map (λ o. option_map (λ b. seen (on_air b) (told b) (count b) (steady b)) o) drivers.old.items) }
+        ensures drivers_stay { OnErr result (D.seen drivers.new ≡ D.seen drivers.old) }
         // The core still stands for a journal, and the drivers have its running operations on air.
-        ensures ready { IsReady self.new (map (λ o. option_map (λ b. seen (on_air b) (told b) (count b) (steady b)) o) drivers.new.items) }
+        ensures ready { IsReady self.new (D.seen drivers.new) }
     {
         self.answer(request, drivers)
     }
 
-    fn answer(&mut self, request: &Request, drivers: &mut Drivers) -> Result<Reply, OutOfMemory>
-        requires ready { IsReady self.old (map (λ o. option_map (λ b. seen (on_air b) (told b) (count b) (steady b)) o) drivers.old.items) }
+    fn answer<D: DriverRow>(
+        &mut self,
+        request: &Request,
+        drivers: &mut D,
+    ) -> Result<Reply, OutOfMemory>
+        requires ready { IsReady self.old (D.seen drivers.old) }
         requires askable { IsAskable request.now }
         ensures step { IfOk result (λ reply. (db : List Domain) (J : Journal) → StandsFor db self.old J → IsStep db J request.now self.old self.new
-            (map (λ o. option_map (λ b. seen (on_air b) (told b) (count b) (steady b)) o) drivers.old.items)
-            (map (λ o. option_map (λ b. seen (on_air b) (told b) (count b) (steady b)) o) drivers.new.items) reply) }
+            (D.seen drivers.old) (D.seen drivers.new) reply) }
         ensures core_stays { OnErr result (self.new ≡ self.old) }
-        ensures drivers_stay { OnErr result (map (λ o. option_map (λ b. seen (on_air b) (told b) (count b) (steady b)) o) drivers.new.items
-            ≡ map (λ o. option_map (λ b. seen (on_air b) (told b) (count b) (steady b)) o) drivers.old.items) }
+        ensures drivers_stay { OnErr result (D.seen drivers.new ≡ D.seen drivers.old) }
     {
         match request {
             Request::At(moment) => self.step_at(*moment),
@@ -112,8 +115,8 @@ impl Core {
 
     fn step_at(&mut self, moment: u64) -> Result<Reply, OutOfMemory>
         requires core { IsCore self.old }
-        ensures step { IfOk result (λ reply. (db : List Domain) (J : Journal) (heard : List (Option Seen)) → StandsFor db self.old J
-            → IsStep db J (At moment) self.old self.new heard heard reply) }
+        ensures step { IfOk result (λ reply. (db : List Domain) (J : Journal) (row : List (Option Seen)) → StandsFor db self.old J
+            → IsStep db J (At moment) self.old self.new row row reply) }
         ensures core_stays { OnErr result (self.new ≡ self.old) }
     {
         match self.at(moment) {
@@ -125,8 +128,8 @@ impl Core {
     fn step_radio_add(&mut self, radio: RadioNo, profile: Profile) -> Result<Reply, OutOfMemory>
         requires core { IsCore self.old }
         requires profile { IsProfile profile }
-        ensures step { IfOk result (λ reply. (db : List Domain) (J : Journal) (heard : List (Option Seen)) → StandsFor db self.old J
-            → IsStep db J (RadioAdd radio profile) self.old self.new heard heard reply) }
+        ensures step { IfOk result (λ reply. (db : List Domain) (J : Journal) (row : List (Option Seen)) → StandsFor db self.old J
+            → IsStep db J (RadioAdd radio profile) self.old self.new row row reply) }
         ensures core_stays { OnErr result (self.new ≡ self.old) }
     {
         match self.add_radio(radio, profile) {
@@ -137,8 +140,8 @@ impl Core {
 
     fn step_user_hint(&mut self, alpha2: Alpha2) -> Result<Reply, OutOfMemory>
         requires core { IsCore self.old }
-        ensures step { IfOk result (λ reply. (db : List Domain) (J : Journal) (heard : List (Option Seen)) → StandsFor db self.old J
-            → IsStep db J (UserHint alpha2) self.old self.new heard heard reply) }
+        ensures step { IfOk result (λ reply. (db : List Domain) (J : Journal) (row : List (Option Seen)) → StandsFor db self.old J
+            → IsStep db J (UserHint alpha2) self.old self.new row row reply) }
         ensures core_stays { OnErr result (self.new ≡ self.old) }
     {
         match self.user_hint(alpha2) {
@@ -154,8 +157,8 @@ impl Core {
         kind: Kind,
     ) -> Result<Reply, OutOfMemory>
         requires core { IsCore self.old }
-        ensures step { IfOk result (λ reply. (db : List Domain) (J : Journal) (heard : List (Option Seen)) → StandsFor db self.old J
-            → IsStep db J (IfaceAdd radio name kind) self.old self.new heard heard reply) }
+        ensures step { IfOk result (λ reply. (db : List Domain) (J : Journal) (row : List (Option Seen)) → StandsFor db self.old J
+            → IsStep db J (IfaceAdd radio name kind) self.old self.new row row reply) }
         ensures core_stays { OnErr result (self.new ≡ self.old) }
     {
         match self.add_iface(radio, name, kind) {
@@ -164,11 +167,10 @@ impl Core {
         }
     }
 
-    fn step_start(&mut self, name: &Name, chan: &ChanDef, drivers: &mut Drivers) -> Reply
-        requires ready { IsReady self.old (map (λ o. option_map (λ b. seen (on_air b) (told b) (count b) (steady b)) o) drivers.old.items) }
+    fn step_start<D: DriverRow>(&mut self, name: &Name, chan: &ChanDef, drivers: &mut D) -> Reply
+        requires ready { IsReady self.old (D.seen drivers.old) }
         ensures step { (db : List Domain) (J : Journal) → StandsFor db self.old J → IsStep db J (Start name.now Ap chan.now) self.old self.new
-            (map (λ o. option_map (λ b. seen (on_air b) (told b) (count b) (steady b)) o) drivers.old.items)
-            (map (λ o. option_map (λ b. seen (on_air b) (told b) (count b) (steady b)) o) drivers.new.items) result }
+            (D.seen drivers.old) (D.seen drivers.new) result }
     {
         match self.start(name, Kind::Ap, chan, drivers) {
             Ok(power_mbm) => plain(Answer::Started(power_mbm)),
@@ -177,11 +179,10 @@ impl Core {
         }
     }
 
-    fn step_stop(&mut self, name: &Name, drivers: &mut Drivers) -> Reply
-        requires ready { IsReady self.old (map (λ o. option_map (λ b. seen (on_air b) (told b) (count b) (steady b)) o) drivers.old.items) }
+    fn step_stop<D: DriverRow>(&mut self, name: &Name, drivers: &mut D) -> Reply
+        requires ready { IsReady self.old (D.seen drivers.old) }
         ensures step { (db : List Domain) (J : Journal) → StandsFor db self.old J → IsStep db J (Stop name.now Ap) self.old self.new
-            (map (λ o. option_map (λ b. seen (on_air b) (told b) (count b) (steady b)) o) drivers.old.items)
-            (map (λ o. option_map (λ b. seen (on_air b) (told b) (count b) (steady b)) o) drivers.new.items) result }
+            (D.seen drivers.old) (D.seen drivers.new) result }
     {
         match self.stop(name, Kind::Ap, drivers) {
             Ok(()) => plain(Answer::Ok),

@@ -1,56 +1,53 @@
 //! Operations that stop.
 
-ghost use Rattle.std.specs.Prelude.{◌≡◌, List, MatchResult, map};
-ghost use Rattle.std.specs.Option.{option_map};
+ghost use Rattle.std.specs.Prelude.{◌≡◌, List, MatchResult};
 ghost use Rattle.rule_tables.specs.declared.domain.Domain.{Domain};
-ghost use Rattle.radio_drv.specs.Seen.{seen};
 ghost use Rattle.reg_journal.specs.Facts.{Journal};
 ghost use Rattle.reg_journal.specs.Refusals.{StopCauses};
 ghost use Rattle.reg_core.specs.Kept.{StandsFor};
-ghost use Rattle.reg_core.specs.Starting.{HasStop, IsStop};
+ghost use Rattle.reg_core.specs.inner.Starting.{HasStop, IsStop};
 ghost use Rattle.reg_core.specs.Stepping.{IsReady};
 
-use crate::core_parts::Core;
-use crate::drivers::{Drivers, stop_at};
-use crate::port::{Port, port_named};
+use crate::core_state::Core;
+use crate::drivers::DriverRow;
+use crate::interface::{Interface, interface_named, set_operation};
 use crate::starting::is_same_kind;
 use chan_def::Kind;
-use radio_drv::Name;
+use radio_drv::{IfIndex, Name};
 use reg_journal::Refusal;
 
 impl Core {
     /// The interface of this name, where it is of the kind and operates.
-    fn operating(&self, name: &Name, kind: Kind) -> Result<Port, Refusal>
+    fn operating(&self, name: &Name, kind: Kind) -> Result<Interface, Refusal>
         ensures stop { (db : List Domain) (J : Journal) → StandsFor db self.now J
             → MatchResult result (HasStop J name.now kind) (StopCauses J name.now kind) }
     {
-        let Some(port) = port_named(self.ports.as_slice(), name) else {
+        let Some(interface) = interface_named(self.interfaces.as_slice(), name) else {
             return Err(Refusal::NoInterface(*name));
         };
-        if !is_same_kind(port.kind, kind) {
+        if !is_same_kind(interface.kind, kind) {
             return Err(Refusal::WrongType);
         }
-        let Some(_operation) = port.operation else {
+        let Some(_operation) = interface.operation else {
             return Err(Refusal::NotRunning);
         };
-        Ok(*port)
+        Ok(*interface)
     }
 
     /// The interface of this name stops to operate (`nl80211_stop_ap`). Its driver is told.
-    pub(crate) fn stop(
+    pub(crate) fn stop<D: DriverRow>(
         &mut self,
         name: &Name,
         kind: Kind,
-        drivers: &mut Drivers,
+        drivers: &mut D,
     ) -> Result<(), Refusal>
-        requires ready { IsReady self.old (map (λ o. option_map (λ b. seen (on_air b) (told b) (count b) (steady b)) o) drivers.old.items) }
+        requires ready { IsReady self.old (D.seen drivers.old) }
         ensures stop { (db : List Domain) (J : Journal) → StandsFor db self.old J → IsStop db J name.now kind self.old self.new
-            (map (λ o. option_map (λ b. seen (on_air b) (told b) (count b) (steady b)) o) drivers.old.items)
-            (map (λ o. option_map (λ b. seen (on_air b) (told b) (count b) (steady b)) o) drivers.new.items) result }
+            (D.seen drivers.old) (D.seen drivers.new) result }
     {
-        let port = self.operating(name, kind)?;
-        stop_at(drivers, port.radio, port.index);
-        self.ports.set_operation(port.index, None);
+        let interface = self.operating(name, kind)?;
+        drivers.stop(interface.radio, IfIndex(interface.index));
+        set_operation(&mut self.interfaces, interface.index, None);
         Ok(())
     }
 }

@@ -3,16 +3,16 @@
 ghost use Rattle.std.specs.Prelude.{◌≡◌, ◌+◌, ◌<◌, ◌≤◌, ◌∷◌, ◌++◌, [], List, ℕ, IfOk, IfSome, length, option_and_then};
 ghost use Rattle.std.specs.Option.{option_copied, option_to_list};
 ghost use Rattle.rule_tables.specs.declared.domain.Domain.{Domain};
-ghost use Rattle.reg_hints.specs.Table.{opening};
+ghost use Rattle.reg_hints.specs.Table.{no_hints};
 ghost use Rattle.rule_intersect.specs.Tables.{IsTableOf};
 ghost use Rattle.reg_journal.specs.Applicable.{find_domain, or_nothing};
-ghost use Rattle.reg_core.specs.Lists.{applies_by, global_by, shared_by};
-ghost use Rattle.reg_core.specs.Making.{HasTable, IsMade, IsMadeSoFar, IsSoFar, joined_count};
-ghost use Rattle.reg_core.specs.TableRules.{AreTableRules};
+ghost use Rattle.reg_core.specs.inner.Lists.{applies_by, global_by, shared_by};
+ghost use Rattle.reg_core.specs.inner.Making.{HasTable, IsMade, IsMadeSoFar, IsTableSoFar, joined_count};
+ghost use Rattle.reg_core.specs.inner.TableRules.{AreTableRules};
 
-use crate::domains::{Domains, OwnRules};
-use freq_range::OutOfMemory;
+use crate::domains::{CustomRules, Domains};
 use reg_hints::Hints;
+use reg_lists::OutOfMemory;
 use rule_intersect::{ResolveFault, Table};
 use rule_tables::{Alpha2, Domain};
 use std::alloc::Global;
@@ -21,7 +21,7 @@ use std::alloc::Global;
 fn joined(alloc: Global, so_far: Option<Table>, domain: &Domain) -> Result<Table, ResolveFault>
     requires rules { AreTableRules domain.now.rules }
     requires room { joined_count so_far < 8 }
-    ensures made { (ds : List Domain) → IsSoFar ds so_far → IsMade (ds ++ domain.now ∷ []) result }
+    ensures made { (ds : List Domain) → IsTableSoFar ds so_far → IsMade (ds ++ domain.now ∷ []) result }
     ensures count { IfOk result (λ table. table.domains ≡ joined_count so_far + 1) }
 {
     match so_far {
@@ -38,7 +38,7 @@ fn also(
 ) -> Result<Option<Table>, ResolveFault>
     requires rules { IfSome domain (λ d. AreTableRules d.now.rules) }
     requires room { joined_count so_far < 8 }
-    ensures made { (ds : List Domain) → IsSoFar ds so_far → IsMadeSoFar (ds ++ option_to_list (option_copied domain.entry)) result }
+    ensures made { (ds : List Domain) → IsTableSoFar ds so_far → IsMadeSoFar (ds ++ option_to_list (option_copied domain.entry)) result }
     ensures count { IfOk result (λ table. joined_count table ≤ joined_count so_far + 1) }
 {
     match domain {
@@ -75,7 +75,7 @@ fn or_nothing(
     so_far: Option<Table>,
     domains: &Domains,
 ) -> Result<Table, ResolveFault>
-    ensures made { (ds : List Domain) → IsSoFar ds so_far → IsMade (or_nothing ds) result }
+    ensures made { (ds : List Domain) → IsTableSoFar ds so_far → IsMade (or_nothing ds) result }
 {
     match so_far {
         Some(table) => Ok(table),
@@ -97,8 +97,8 @@ pub(crate) fn global_table(
 }
 
 /// The table of the global list before the first hint: that of the world's domain.
-pub(crate) fn opening_table(alloc: Global, domains: &Domains) -> Result<Table, OutOfMemory>
-    ensures made { IfOk result (IsTableOf (global_by domains.now opening)) }
+pub(crate) fn initial_table(alloc: Global, domains: &Domains) -> Result<Table, OutOfMemory>
+    ensures made { IfOk result (IsTableOf (global_by domains.now no_hints)) }
 {
     match Table::first(alloc, domains.world()) {
         Ok(table) => Ok(table),
@@ -106,8 +106,8 @@ pub(crate) fn opening_table(alloc: Global, domains: &Domains) -> Result<Table, O
     }
 }
 
-/// The domain of a radio's own rules, where it has some.
-fn own_of(custom: Option<&OwnRules>) -> Option<&Domain>
+/// The domain of a radio's custom rules, where it has some.
+fn custom_of(custom: Option<&CustomRules>) -> Option<&Domain>
     ensures domain { option_copied result ≡ option_copied custom.entry }
     ensures rules { IfSome result (λ d. AreTableRules d.now.rules) }
 {
@@ -122,25 +122,25 @@ pub(crate) fn driver_of(domains: &Domains, driver: Option<Alpha2>) -> Option<&Do
     domains.find(driver?)
 }
 
-/// The table of the list that applies to a radio, which may manage itself, with its own rules and the
+/// The table of the list that applies to a radio, which may manage itself, with its custom rules and the
 /// code of its driver's last hint.
 pub(crate) fn radio_table(
     alloc: Global,
     domains: &Domains,
     hints: &Hints,
     self_managed: bool,
-    custom: Option<&OwnRules>,
+    custom: Option<&CustomRules>,
     driver: Option<Alpha2>,
 ) -> Result<Table, ResolveFault>
     ensures made { IsMade (applies_by domains.now hints.now self_managed (option_to_list (option_copied custom.entry)) driver) result }
 {
     let shared = shared_table(alloc, domains, hints, self_managed)?;
-    let with_own = also(alloc, shared, own_of(custom))?;
-    let with_driver = also(alloc, with_own, driver_of(domains, driver))?;
+    let with_custom = also(alloc, shared, custom_of(custom))?;
+    let with_driver = also(alloc, with_custom, driver_of(domains, driver))?;
     or_nothing(alloc, with_driver, domains)
 }
 
-/// The table of the list that applies to a radio that has neither rules of its own nor a driver's
+/// The table of the list that applies to a radio that has neither custom rules nor a driver's
 /// hint. It is that of the global list, which has one, or of the empty domain.
 pub(crate) fn new_radio_table(
     alloc: Global,

@@ -8,11 +8,11 @@ ghost use Rattle.reg_journal.specs.Applicable.{hints_of};
 ghost use Rattle.reg_journal.specs.Facts.{Journal, hinted};
 ghost use Rattle.reg_journal.specs.Refusals.{HintCauses};
 ghost use Rattle.reg_journal.specs.declared.request.Request.TheVariants.{UserHint};
-ghost use Rattle.reg_core.specs.Deciding.{Declines, IsCore, Takes};
+ghost use Rattle.reg_core.specs.inner.Deciding.{Declines, IsCore, TakesFact};
 ghost use Rattle.reg_core.specs.Kept.{StandsFor};
 ghost use Rattle.reg_core.specs.Stepping.{IsBuilt, SomeRuns, changes_list};
 
-use crate::core_parts::Core;
+use crate::core_state::Core;
 use crate::declined::Declined;
 use crate::in_use::some_runs;
 use reg_hints::{Hint, Treatment};
@@ -30,7 +30,7 @@ impl Core {
     fn might_end(&self, treatment: Treatment) -> bool
         ensures { (db : List Domain) (J : Journal) → StandsFor db self.now J → IsTrue result ↔ (IsTrue (changes_list treatment) × SomeRuns J) }
     {
-        changes_list(treatment) && some_runs(self.ports.as_slice(), &self.radios)
+        changes_list(treatment) && some_runs(self.interfaces.as_slice(), &self.radios)
     }
 
     /// A user says in which country the radios are (`regulatory_hint_user`). It isn't built yet where the
@@ -39,7 +39,7 @@ impl Core {
         requires core { IsCore self.old }
         ensures taken { (db : List Domain) (J : Journal) → StandsFor db self.old J → MatchResult result
             (λ t. (t ≡ treatment (hints_of J) (User alpha2)) × IsBuilt db J (UserHint alpha2)
-            × Takes db J (HintCauses db J alpha2 (Treated (User alpha2))) (hinted (Treated (User alpha2))) self.new)
+            × TakesFact db J (HintCauses db J alpha2 (Treated (User alpha2))) (hinted (Treated (User alpha2))) self.new)
             (Declines (HintCauses db J alpha2 (Treated (User alpha2))) (IsBuilt db J (UserHint alpha2) → ⊥) self.old self.new) }
     {
         let hint = Hint::User(alpha2);

@@ -2,7 +2,7 @@
 use Rattle.std.proofs.Common.{◌≡◌, ℕ, ◌↔◌, Bool, true, not, IsTrue, rules}
 use Rattle.rule_tables.specs.declared.code.Alpha2.{Alpha2}
 use Rattle.reg_hints.specs.Last.{is_element, is_element_of, is_element_of_other}
-use Rattle.reg_hints.specs.Table.{is_same_code}
+use Rattle.rule_tables.specs.Code.{is_same_code}
 use Rattle.reg_hints.specs.declared.hint.Last.{Last}
 use Rattle.reg_hints.specs.declared.hint.Last.TheVariants.{Core, User, Driver, Element}
 

@@ -1,19 +1,16 @@
 -- What the last hint was.
 use Rattle.std.specs.Prelude.{ℕ, ◌==◌, Bool, true, false, not}
+use Rattle.rule_tables.specs.World.{world}
 use Rattle.rule_tables.specs.declared.code.Alpha2.{Alpha2}
 use Rattle.reg_hints.specs.declared.hint.Last.{Last}
 use Rattle.reg_hints.specs.declared.hint.Last.TheVariants.{Core, User, Driver, Element}
 
--- the code of the world's domain: two digits 0
-abbrev pub world : Alpha2
-world = record { a = 48; b = 48 }
-
 -- the code that the last hint named; the core's own counts as the world's
-abbrev pub code_of : Last → Alpha2
-code_of Core = world
-code_of (User alpha2 intersected) = alpha2
-code_of (Driver alpha2) = alpha2
-code_of (Element radio alpha2) = alpha2
+abbrev pub last_code : Last → Alpha2
+last_code Core = world
+last_code (User alpha2 intersected) = alpha2
+last_code (Driver alpha2) = alpha2
+last_code (Element radio alpha2) = alpha2
 
 abbrev pub is_core : Last → Bool
 is_core Core = true
@@ -40,14 +37,14 @@ is_element (User alpha2 intersected) = false
 is_element (Driver alpha2) = false
 is_element (Element radio alpha2) = true
 
--- a country element that another radio heard
+-- a country element that another radio received
 abbrev pub is_element_of_other : Last → ℕ → Bool
 is_element_of_other Core r = false
 is_element_of_other (User alpha2 intersected) r = false
 is_element_of_other (Driver alpha2) r = false
 is_element_of_other (Element radio alpha2) r = not (radio == r)
 
--- a country element that this radio heard
+-- a country element that this radio received
 abbrev pub is_element_of : Last → ℕ → Bool
 is_element_of Core r = false
 is_element_of (User alpha2 intersected) r = false

@@ -1,7 +1,10 @@
 -- How a hint is treated, and what it leaves.
 use Rattle.std.specs.Prelude.{◌≡◌, ℕ, ◌==◌, ◌≤◌, ◌<◌, Bool, true, false, not, ◌&&◌, List, [], ◌∷◌, ◌++◌, length, if◌then◌else◌}
+use Rattle.rule_tables.specs.Code.{is_same_code}
 use Rattle.rule_tables.specs.declared.code.Alpha2.{Alpha2}
-use Rattle.reg_hints.specs.Last.{world, code_of, is_core, is_intersected_user, is_driver, is_element, is_element_of, is_element_of_other}
+use Rattle.rule_tables.specs.World.{world}
+use Rattle.reg_hints.specs.Last.{last_code, is_core, is_intersected_user, is_driver, is_element, is_element_of, is_element_of_other}
+use Rattle.reg_hints.specs.declared.codes.TheConstants.{MOST_CODES}
 use Rattle.reg_hints.specs.declared.hint.Hint.{Hint}
 use Rattle.reg_hints.specs.declared.hint.Hint.TheVariants.{User, Driver, Element}
 use Rattle.reg_hints.specs.declared.hint.Last.{Last}
@@ -10,17 +13,14 @@ use Rattle.reg_hints.specs.declared.hint.Treatment.{Treatment}
 use Rattle.reg_hints.specs.declared.hint.Treatment.TheVariants.{Replace, Intersect, Already, Ignore}
 
 -- What the hints have led to: the last one, and the codes of the global list, whose domains apply to every radio that
--- doesn't manage itself.
+-- isn't self-managed.
 pub record State : Type 0 where
   pub last : Last
   pub global : List Alpha2
 
 -- where no hint has come
-abbrev pub opening : State
-opening = record { last = Core; global = world ∷ [] }
-
-abbrev pub is_same_code : Alpha2 → Alpha2 → Bool
-is_same_code one other = one.a == other.a && one.b == other.b
+abbrev pub no_hints : State
+no_hints = record { last = Core; global = world ∷ [] }
 
 -- the list is exactly this code
 abbrev pub is_only : List Alpha2 → Alpha2 → Bool
@@ -33,7 +33,7 @@ abbrev pub treatment : State → Hint → Treatment
 treatment s (User a) =
     if is_element s.last then Intersect
     else if is_intersected_user s.last then Ignore
-    else if not (is_only s.global (code_of s.last)) then Ignore
+    else if not (is_only s.global (last_code s.last)) then Ignore
     else if is_only s.global a then Already
     else Replace
 treatment s (Driver r a) =
@@ -74,10 +74,10 @@ left_by Already h s = if is_drivers h then record { last = as_last h false; glob
 left_by Ignore h s = s
 
 -- what a hint leaves: the step of the table
-abbrev pub after : Hint → State → State
-after h s = left_by (treatment s h) h s
+abbrev pub after_hint : Hint → State → State
+after_hint h s = left_by (treatment s h) h s
 
--- A hint that was accepted: treated by the table, or a driver's on a radio that manages itself, which sets that radio's
+-- A hint that was accepted: treated by the table, or a driver's on a self-managed radio, which sets that radio's
 -- own domain alone.
 pub data Hinted : Type 0 where
   Treated : Hint → Hinted
@@ -85,15 +85,15 @@ pub data Hinted : Type 0 where
 
 -- what the accepted hints have led to, the newest one first
 abbrev pub after_all : List Hinted → State
-after_all [] = opening
-after_all (Treated h ∷ earlier) = after h (after_all earlier)
+after_all [] = no_hints
+after_all (Treated h ∷ earlier) = after_hint h (after_all earlier)
 after_all (Own radio alpha2 ∷ earlier) = after_all earlier
 
 -- there are one to four codes in a global list
 pub record IsGlobal (codes : List Alpha2) : Type 0 where
   pub some : 0 < length codes
-  pub few : length codes ≤ 4
+  pub few : length codes ≤ MOST_CODES
 
--- the hint would put a fifth code into the global list
+-- the global list is full, and the hint would put one more code into it
 abbrev pub IsOneTooMany : State → Hint → Type 0
-IsOneTooMany s h = (treatment s h ≡ Intersect) × (length s.global ≡ 4)
+IsOneTooMany s h = (treatment s h ≡ Intersect) × (length s.global ≡ MOST_CODES)

@@ -1,4 +1,4 @@
-//! The country element that a radio hears.
+//! The country element that a radio receives.
 
 ghost use Rattle.std.specs.Prelude.{◌≡◌, MatchResult};
 ghost use Rattle.reg_hints.specs.Element.{IsElement, IsElementFault};

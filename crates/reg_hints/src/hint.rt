@@ -18,8 +18,8 @@ pub enum Hint {
         radio: RadioNo,
         alpha2: Alpha2,
     },
-    /// A country element that a radio heard (`NL80211_REGDOM_SET_BY_COUNTRY_IE`). It is `deaf` where
-    /// the radio ignores elements or manages itself.
+    /// A country element that a radio received (`NL80211_REGDOM_SET_BY_COUNTRY_IE`). It is `deaf` where
+    /// the radio ignores elements or is self-managed.
     Element {
         radio: RadioNo,
         alpha2: Alpha2,
@@ -49,7 +49,7 @@ pub enum Last {
     User { alpha2: Alpha2, intersected: bool },
     /// A driver's.
     Driver { alpha2: Alpha2 },
-    /// A country element that this radio heard.
+    /// A country element that this radio received.
     Element { radio: RadioNo, alpha2: Alpha2 },
 }
 
@@ -95,11 +95,11 @@ impl Hint {
 }
 
 impl Last {
-    ghost use Rattle.reg_hints.specs.Last.{code_of, is_core, is_driver, is_element, is_element_of_other, is_intersected_user};
+    ghost use Rattle.reg_hints.specs.Last.{last_code, is_core, is_driver, is_element, is_element_of_other, is_intersected_user};
 
     /// The code that it named, `00` for the core's own.
     pub(crate) fn alpha2(&self) -> Alpha2
-        ensures { result ≡ code_of self.now }
+        ensures { result ≡ last_code self.now }
     {
         match self {
             Last::Core => WORLD,
@@ -136,7 +136,7 @@ impl Last {
         matches!(self, Last::Element { .. })
     }
 
-    /// Whether it was a country element that another radio heard.
+    /// Whether it was a country element that another radio received.
     pub(crate) fn is_element_of_other(&self, radio: &RadioNo) -> bool
         ensures { result ≡ is_element_of_other self.now radio.now }
     {

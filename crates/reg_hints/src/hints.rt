@@ -1,7 +1,7 @@
 //! What the hints have led to, and what the next one changes.
 
 ghost use Rattle.std.specs.Prelude.{◌≡◌, List, ◌∷◌, slice_get, MatchResult, OnOk, OnErr};
-ghost use Rattle.reg_hints.specs.Table.{Hinted, Treated, IsGlobal, IsOneTooMany, opening, treatment, after, after_all};
+ghost use Rattle.reg_hints.specs.Table.{Hinted, Treated, IsGlobal, IsOneTooMany, no_hints, treatment, after_hint, after_all};
 
 use crate::codes::CodeList;
 use crate::hint::{Hint, Last, Treatment, WORLD};
@@ -14,7 +14,7 @@ use std::marker::Model;
 pub struct TooManyDomains;
 
 /// The last hint, and the global list: one to four codes, whose domains apply to every radio that
-/// doesn't manage itself (`get_cfg80211_regdom`).
+/// isn't self-managed (`get_cfg80211_regdom`).
 #[derive(Debug, Drop)]
 pub struct Hints {
     last: Last,
@@ -32,7 +32,7 @@ impl Model for Hints {
 impl Hints {
     /// No hint yet, and the world's domain alone.
     pub fn new() -> Hints
-        ensures opening { result ≡ opening }
+        ensures opening { result ≡ no_hints }
     {
         Hints {
             last: Last::Core,
@@ -77,7 +77,7 @@ impl Hints {
         ensures answer { MatchResult result
             (λ t. (t ≡ treatment self.old h.now) × (IsOneTooMany self.old h.now → ⊥))
             (λ _. IsOneTooMany self.old h.now) }
-        ensures step { OnOk result (self.new ≡ after h.now self.old) }
+        ensures step { OnOk result (self.new ≡ after_hint h.now self.old) }
         ensures fold { OnOk result ((earlier : List Hinted) → after_all earlier ≡ self.old
             → after_all (Treated h.now ∷ earlier) ≡ self.new) }
         ensures unchanged { OnErr result (self.new ≡ self.old) }

@@ -6,7 +6,7 @@ use Rattle.chan_def.specs.Kinds.{initiates}
 use Rattle.chan_def.specs.declared.definition.ChanDef.{ChanDef}
 use Rattle.chan_def.specs.declared.width.Width.{Width}
 use Rattle.chan_def.specs.declared.width.Width.TheVariants.{Noht, W20, W40, W80, W160}
-use Rattle.chan_flags.specs.Verdicts.{Bars, BarsNone, HasWidth, IsAbove, IsWithin, NoneBars}
+use Rattle.chan_flags.specs.Verdicts.{Bars, BarsNone, HasWidth, IsAbove, IsWithinLimit, NoneBars}
 use Rattle.chan_flags.specs.declared.asked.Obstacle.TheVariants.{Missing, Unruled, Narrow, OfdmBarred, IrBarred, OutdoorBarred}
 use Rattle.chan_flags.specs.declared.verdict.PowerSetting.{PowerSetting}
 use Rattle.chan_flags.specs.declared.verdict.PowerSetting.TheVariants.{Auto, Limit, Fixed}
@@ -39,7 +39,7 @@ whole_mhz W40 = refl
 whole_mhz W80 = refl
 whole_mhz W160 = refl
 
-pub not_above : (setting : PowerSetting) (limit : ℕ) → IsWithin setting limit → IsAbove setting limit → ⊥
+pub not_above : (setting : PowerSetting) (limit : ℕ) → IsWithinLimit setting limit → IsAbove setting limit → ⊥
 not_above Auto limit within above = above
 not_above (Limit power) limit within above = above
 not_above (Fixed power) limit within above = omega (arith, within, above)
@@ -62,7 +62,7 @@ free-rules_forbid db J x c none =
     (free-before _ _ (free-at_lowest _ c _ none.1.1.1.0)
     (free-at_lowest _ c _ none.1.1.1.1.0))))
 
-pub free-passes_limit : (db : List Domain) (J : Journal) (x : Iface) (c : ChanDef) (limit : ℕ) → IsLimitOf db J x c limit → IsWithin x.setting limit
+pub free-passes_limit : (db : List Domain) (J : Journal) (x : Iface) (c : ChanDef) (limit : ℕ) → IsLimitOf db J x c limit → IsWithinLimit x.setting limit
     → IsFree (PassesLimit db J x c)
 free-passes_limit db J x c limit is within e cause =
     not_above x.setting limit within (subst (λ n. IsAbove x.setting n) (IsLimit-unique _ _ cause.0 limit cause.1 is) cause.2)

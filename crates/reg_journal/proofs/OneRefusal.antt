@@ -20,7 +20,7 @@ use Rattle.reg_journal.specs.Present.{Iface, Operation, named, operation_of}
 use Rattle.reg_journal.specs.Applicable.{applies}
 use Rattle.reg_journal.specs.Causes.{◌before◌}
 use Rattle.reg_journal.specs.Permits.{asked_by, IsLimitOf, PassesLimit, RulesForbid, EndsOperation, BarsOperation, BarsCheck}
-use Rattle.reg_journal.specs.Refusals.{MomentCauses, LacksRadio, RadioAddCauses, HasTooMany, IsTooLongAt, RowCauses, RulesCauses, all_lists, ElementCauses, HintCauses, IfaceAddCauses, LacksIface, OnIface, SetTypeCauses, SetPowerCauses, StopCauses, StartCauses, CheckCauses, RadarCauses}
+use Rattle.reg_journal.specs.Refusals.{MomentCauses, LacksRadio, RadioAddCauses, HasTooManyRows, IsTooLongAt, RowCauses, RulesCauses, all_lists, ElementCauses, HintCauses, IfaceAddCauses, LacksIface, OnIface, SetTypeCauses, SetPowerCauses, StopCauses, StartCauses, CheckCauses, RadarCauses}
 use Rattle.reg_journal.specs.declared.refusal.Refusal.{Refusal}
 use Rattle.reg_journal.specs.declared.refusal.Refusal.TheVariants.{Power, TooManyRows, BadRule, ElementShort, ElementOdd}
 use Rattle.reg_journal.proofs.OneCause.{NamesOne, one-where, one-before, one-at_lowest}
@@ -35,7 +35,7 @@ one-rows : (lists : List (List Domain)) → NamesOne (RowCauses lists)
 one-rows lists e other (k, first, ds, at, m, many, here) (l, first', ds', at', n, many', there) =
     let same_place = IsFirst-unique (IsTooLongAt lists) k l first first' in
     let same_list : ds ≡ ds' = some_same (sym at ∙ ap (λ p. slice_get lists p) same_place ∙ at') in
-    let same_rows = (IsTooMany-unique ds' (subst (λ l. HasTooMany l m) same_list many).0 m many'.0 n (subst (λ l. HasTooMany l m) same_list many).1 many'.1).1 in
+    let same_rows = (IsTooMany-unique ds' (subst (λ l. HasTooManyRows l m) same_list many).0 m many'.0 n (subst (λ l. HasTooManyRows l m) same_list many).1 many'.1).1 in
     here ∙ ap TooManyRows same_rows ∙ sym there
   where
     some_same : {X : Type 0} {x y : X} → Some x ≡ Some y → x ≡ y

@@ -4,13 +4,14 @@ use Rattle.std.specs.List.{filter_map, list_all}
 use Rattle.std.specs.Option.{option_map, option_to_list}
 use Rattle.freq_range.specs.declared.flags.RuleFlags.{RuleFlags}
 use Rattle.freq_range.specs.declared.rule.Rule.{Rule}
-use Rattle.rule_tables.specs.FileFormat.{region_number}
+use Rattle.rule_tables.specs.Code.{is_same_code}
+use Rattle.rule_tables.specs.Regions.{common_region}
+use Rattle.rule_tables.specs.World.{custom_domain, world, world_domain}
 use Rattle.rule_tables.specs.declared.code.Alpha2.{Alpha2}
 use Rattle.rule_tables.specs.declared.code.Region.{Region}
 use Rattle.rule_tables.specs.declared.code.Region.TheVariants.{Unset}
 use Rattle.rule_tables.specs.declared.domain.Domain.{Domain}
-use Rattle.reg_hints.specs.Last.{world}
-use Rattle.reg_hints.specs.Table.{Hinted, Treated, Own, State, after_all, is_same_code}
+use Rattle.reg_hints.specs.Table.{Hinted, Treated, Own, State, after_all}
 use Rattle.reg_hints.specs.declared.hint.Hint.TheVariants.{User, Driver, Element}
 use Rattle.reg_journal.specs.Facts.{Journal, hinted}
 use Rattle.reg_journal.specs.Present.{abilities_of, custom_rules_of}
@@ -40,26 +41,6 @@ driver_code_of J r = driver_code_in (hinted_of J) r
 
 -- ---- domains
 
--- a rule of the world's domain, of 20 dBm
-abbrev pub world_rule : ℕ → ℕ → ℕ → RuleFlags → Rule
-world_rule start end width flags = record { start_khz = start; end_khz = end; max_bw_khz = width; flags = flags; eirp_mbm = 2000; cac_s = 0; wmm = None }
-
--- these flags and no others
-abbrev pub flags_of : (dfs no_ir auto_bw : Bool) → RuleFlags
-flags_of dfs no_ir auto_bw = record { no_ofdm = false; no_outdoor = false; dfs = dfs; no_ir = no_ir; auto_bw = auto_bw }
-
--- What holds for the world where the database doesn't say: 2402 to 2472 MHz with 40 MHz, and 5170 to 5250 and 5250 to
--- 5330 MHz with 80 MHz, where nobody may send first, and above 5250 MHz with radar detection.
-abbrev pub world_domain : Domain
-world_domain = record {
-  alpha2 = world;
-  region = Unset;
-  rules = world_rule 2402000 2472000 40000 (flags_of false false false)
-      ∷ world_rule 5170000 5250000 80000 (flags_of false true true)
-      ∷ world_rule 5250000 5330000 80000 (flags_of true true true)
-      ∷ [];
-}
-
 abbrev pub or_world : Alpha2 → Option Domain → Option Domain
 or_world a (Some d) = Some d
 or_world a None = if is_same_code a world then Some world_domain else None
@@ -72,24 +53,16 @@ find_domain db a = or_world a (find (λ d. is_same_code d.alpha2 a) db)
 abbrev pub global_domains : List Domain → Journal → List Domain
 global_domains db J = filter_map (find_domain db) (hints_of J).global
 
--- the code `99`
-abbrev pub own_code : Alpha2
-own_code = record { a = 57; b = 57 }
-
--- a radio's own rules as a domain; where there are none, it permits nothing
-abbrev pub own_domain : List Rule → Domain
-own_domain rules = record { alpha2 = own_code; region = Unset; rules = rules }
-
 abbrev pub is_self_managed : Journal → ℕ → Bool
 is_self_managed J r = (abilities_of J r).self_managed
 
--- the domains that apply to the radio with all others: none where it manages itself
+-- the domains that apply to the radio with all others: none where it is self-managed
 abbrev pub shared_domains : List Domain → Journal → ℕ → List Domain
 shared_domains db J r = if is_self_managed J r then [] else global_domains db J
 
--- that of its own rules, where it has some
+-- that of its custom rules, where it has some
 abbrev pub custom_domains : Journal → ℕ → List Domain
-custom_domains J r = option_to_list (option_map own_domain (custom_rules_of J r))
+custom_domains J r = option_to_list (option_map custom_domain (custom_rules_of J r))
 
 -- that of its driver's last hint, where there was one
 abbrev pub driver_domains : List Domain → Journal → ℕ → List Domain
@@ -97,7 +70,7 @@ driver_domains db J r = option_to_list (option_and_then (find_domain db) (driver
 
 -- the list, or one domain without rules where it is empty
 abbrev pub or_nothing : List Domain → List Domain
-or_nothing [] = own_domain [] ∷ []
+or_nothing [] = custom_domain [] ∷ []
 or_nothing (d ∷ ds) = d ∷ ds
 
 -- The domains that apply to the radio. There is always one.
@@ -106,18 +79,10 @@ applies db J r = or_nothing (shared_domains db J r ++ custom_domains J r ++ driv
 
 -- ---- regions
 
-abbrev pub is_same_region : Region → Region → Bool
-is_same_region one other = region_number one == region_number other
-
--- the region that all have, or unset where they differ or there is none
-abbrev pub common_region : List Region → Region
-common_region [] = Unset
-common_region (region ∷ regions) = if list_all (is_same_region region) regions then region else Unset
-
 -- the region of the global list
 abbrev pub global_region : List Domain → Journal → Region
 global_region db J = common_region (map (λ d. d.region) (global_domains db J))
 
--- The region of the radio. Its own rules have none.
+-- The region of the radio. Its custom rules have none.
 abbrev pub region_of : List Domain → Journal → ℕ → Region
 region_of db J r = common_region (map (λ d. d.region) (shared_domains db J r ++ driver_domains db J r))

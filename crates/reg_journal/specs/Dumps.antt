@@ -3,6 +3,7 @@ use Rattle.std.specs.Prelude.{◌≡◌, ℕ, ◌+◌, ◌*◌, min, Bool, ◌||
 use Rattle.std.specs.List.{AllZip}
 use Rattle.std.specs.Option.{option_map}
 use Rattle.freq_range.specs.declared.rule.Rule.{Rule}
+use Rattle.rule_tables.specs.World.{joined_code}
 use Rattle.rule_tables.specs.declared.code.Alpha2.{Alpha2}
 use Rattle.rule_tables.specs.declared.code.Region.{Region}
 use Rattle.rule_tables.specs.declared.domain.Domain.{Domain}
@@ -25,10 +26,6 @@ use Rattle.reg_journal.specs.declared.report.IfaceState.{IfaceState}
 use Rattle.reg_journal.specs.declared.report.IfaceState.TheVariants.{Idle, Checking, Running}
 
 -- ---- sections
-
--- the code `98`, of several domains
-abbrev pub joined_code : Alpha2
-joined_code = record { a = 57; b = 56 }
 
 abbrev pub code_of_list : List Domain → Alpha2
 code_of_list [] = joined_code
@@ -61,7 +58,7 @@ IsGlobalSection db J = IsSection None (global_domains db J) (global_region db J)
 abbrev pub IsRadioSection : List Domain → Journal → ℕ → Section → Type 0
 IsRadioSection db J r = IsSection (Some r) (applies db J r) (region_of db J r)
 
--- the radio has a list of its own: it has rules of its own, had a hint of its driver, or manages itself
+-- the radio has a list of its own: it has custom rules, had a hint of its driver, or is self-managed
 abbrev pub has_own_list : Journal → ℕ → Bool
 has_own_list J r = is_some (custom_rules_of J r) || (is_some (driver_code_of J r) || is_self_managed J r)
 

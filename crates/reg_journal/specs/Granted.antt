@@ -11,7 +11,7 @@ use Rattle.reg_journal.specs.Applicable.{applies}
 use Rattle.reg_journal.specs.Radar.{IsQuiet, Stands}
 use Rattle.reg_journal.specs.Permits.{asked_by, width_mhz, distinct, channels_beside, IsBoundOn}
 
--- a check stands for the subchannel, and no nonoccupancy runs there
+-- a check (CAC) stands for the subchannel, and no nonoccupancy (NOP) runs there
 pub record IsClear (db : List Domain) (J : Journal) (r s : ℕ) : Type 0 where
   pub quiet : IsQuiet J r s
   pub end : ℕ

@@ -1,14 +1,13 @@
 -- What speaks against a channel for an interface: its radio, the rules of the domains that apply, and radar.
 -- Below, x is an interface and c the channel.
-use Rattle.std.specs.Prelude.{◌≡◌, ℕ, ◌/◌, ◌<◌, ◌==◌, Bool, ◌&&◌, List, [], ◌∷◌, ◌++◌, length, filter, Option, Some, None, IsTrue, if◌then◌else◌}
+use Rattle.std.specs.Prelude.{◌≡◌, ℕ, ◌/◌, ◌<◌, List, [], ◌∷◌, ◌++◌, length, filter, Option, Some, None, IsTrue, if◌then◌else◌}
 use Rattle.std.specs.List.{filter_map, list_any}
 use Rattle.std.specs.Option.{option_map}
 use Rattle.rule_tables.specs.declared.domain.Domain.{Domain}
 use Rattle.chan_def.specs.Covered.{width_khz, IsCovered}
 use Rattle.chan_def.specs.Kinds.{initiates}
+use Rattle.chan_def.specs.Same.{is_same_channel}
 use Rattle.chan_def.specs.declared.definition.ChanDef.{ChanDef}
-use Rattle.chan_def.specs.declared.width.Width.{Width}
-use Rattle.chan_def.specs.declared.width.Width.TheVariants.{Noht, W20, W40, W80, W160}
 use Rattle.chan_flags.specs.Verdicts.{asked, Bars, IsBound, IsLimit, IsCheckLength, IsAbove, power_of}
 use Rattle.chan_flags.specs.declared.asked.Asked.{Asked}
 use Rattle.chan_flags.specs.declared.asked.Obstacle.TheVariants.{Missing, Unruled, Narrow, OfdmBarred, IrBarred, OutdoorBarred}
@@ -35,16 +34,6 @@ LacksChannel db J x c = AtLowest (Bars (applies db J x.radio) (asked_by J x c) M
 
 abbrev pub LacksWidth : Journal → Iface → ChanDef → Refusal → Type 0
 LacksWidth J x c = Where ((abilities_of J x.radio).width_mhz < width_mhz c) (RadioLacksWidth (width_mhz c))
-
-abbrev pub width_place : Width → ℕ
-width_place Noht = 0
-width_place W20 = 1
-width_place W40 = 2
-width_place W80 = 3
-width_place W160 = 4
-
-abbrev pub is_same_channel : ChanDef → ChanDef → Bool
-is_same_channel one other = one.control_khz == other.control_khz && width_place one.width == width_place other.width && one.centre_khz == other.centre_khz
 
 -- these channels, and each of the others once that isn't among them
 abbrev pub distinct_from : List ChanDef → List ChanDef → List ChanDef
@@ -99,7 +88,7 @@ PassesLimit db J x c = λ e. (limit : ℕ) × IsLimitOf db J x c limit × IsAbov
 
 -- ---- radar
 
--- the subchannel has to be checked for radar: some rule has DFS
+-- the subchannel has to be checked for radar (CAC): some rule has DFS
 abbrev pub IsBoundOn : List Domain → Journal → ℕ → ℕ → Type 0
 IsBoundOn db J r s = IsBound (applies db J r) s
 
@@ -109,7 +98,7 @@ LacksRadarWidth db J x c =
     Where (IsTrue (initiates x.kind) × ((s : ℕ) × IsCovered c s × IsBoundOn db J x.radio s) × ((abilities_of J x.radio).radar_mhz < width_mhz c))
     (RadioLacksRadarWidth (width_mhz c))
 
--- there was radar on a subchannel that has to be checked, and its nonoccupancy isn't over
+-- there was radar on a subchannel that has to be checked, and its nonoccupancy (NOP) isn't over
 abbrev pub MetRadar : List Domain → Journal → Iface → ChanDef → Refusal → Type 0
 MetRadar db J x c = AtLowest (λ s. IsTrue (initiates x.kind) × IsBoundOn db J x.radio s × (IsQuiet J x.radio s → ⊥)) c Radar
 

@@ -1,5 +1,5 @@
 -- What the facts say of the moment, of radios and of interfaces: always by the last fact on them.
-use Rattle.std.specs.Prelude.{ℕ, ◌+◌, ◌^◌, ◌==◌, nat_lt, Bool, false, ◌||◌, ◌&&◌, not, List, [], ◌∷◌, ◌++◌, map, filter, find, Option, Some, None, is_some, unwrap_or, if◌then◌else◌, option_and_then}
+use Rattle.std.specs.Prelude.{ℕ, ◌+◌, ◌==◌, nat_lt, Bool, false, ◌||◌, ◌&&◌, not, List, [], ◌∷◌, ◌++◌, map, filter, find, Option, Some, None, is_some, unwrap_or, if◌then◌else◌, option_and_then}
 use Rattle.std.specs.Option.{option_map}
 use Rattle.freq_range.specs.declared.rule.Rule.{Rule}
 use Rattle.chan_def.specs.declared.definition.ChanDef.{ChanDef}
@@ -11,10 +11,6 @@ use Rattle.reg_journal.specs.Facts.{Journal, moment_is, radio_added, radio_remov
 use Rattle.reg_journal.specs.Names.{is_same_name}
 
 -- ---- limits
-
--- the last moment, in ms
-abbrev pub last_moment : ℕ
-last_moment = 10 ^ 15
 
 -- how many interfaces can be made: an index is a number of 32 bits
 abbrev pub most_made : ℕ
@@ -55,7 +51,7 @@ no_abilities = abilities (record { ghz2 = false; ghz5 = false; ghz6 = false }) 0
 abbrev pub abilities_of : Journal → ℕ → Abilities
 abilities_of J r = unwrap_or (profile_of J r) no_abilities
 
--- the radio's own rules, if it has some
+-- the radio's custom rules, if it has some
 abbrev pub custom_rules_of : Journal → ℕ → Option (List Rule)
 custom_rules_of [] r = None
 custom_rules_of (rules_are q rules ∷ J) r = if r == q then Some rules else custom_rules_of J r
@@ -80,8 +76,8 @@ pub record Iface : Type 0 where
   pub setting : PowerSetting
 
 -- a new interface
-abbrev pub fresh : ℕ → List ℕ → ℕ → Kind → Iface
-fresh i name r kind = record { index = i; name = name; radio = r; kind = kind; setting = Auto }
+abbrev pub new_iface : ℕ → List ℕ → ℕ → Kind → Iface
+new_iface i name r kind = record { index = i; name = name; radio = r; kind = kind; setting = Auto }
 
 abbrev pub with_kind : ℕ → Kind → Iface → Iface
 with_kind i kind x = if x.index == i then record x { kind = kind } else x
@@ -95,7 +91,7 @@ is_apart i x = not (x.index == i)
 -- the interfaces that are there, in order of creation
 abbrev pub ifaces_of : Journal → List Iface
 ifaces_of [] = []
-ifaces_of (made i name r kind ∷ J) = ifaces_of J ++ fresh i name r kind ∷ []
+ifaces_of (made i name r kind ∷ J) = ifaces_of J ++ new_iface i name r kind ∷ []
 ifaces_of (ended i ∷ J) = filter (is_apart i) (ifaces_of J)
 ifaces_of (typed i kind ∷ J) = map (with_kind i kind) (ifaces_of J)
 ifaces_of (set_to i setting ∷ J) = map (with_setting i setting) (ifaces_of J)
@@ -132,20 +128,20 @@ pub record Operation : Type 0 where
   pub chan : ChanDef
   pub power : ℕ
 
-abbrev pub with_power : ℕ → Operation → Operation
-with_power power o = record { chan = o.chan; power = power }
+abbrev pub operation_with_power : ℕ → Operation → Operation
+operation_with_power power o = record { chan = o.chan; power = power }
 
 -- the last start without a later stop, with the last power since
 abbrev pub operation_of : Journal → ℕ → Option Operation
 operation_of [] i = None
 operation_of (started j chan power ∷ J) i = if i == j then Some (record { chan = chan; power = power }) else operation_of J i
 operation_of (stopped j ∷ J) i = if i == j then None else operation_of J i
-operation_of (powered j power ∷ J) i = if i == j then option_map (with_power power) (operation_of J i) else operation_of J i
+operation_of (powered j power ∷ J) i = if i == j then option_map (operation_with_power power) (operation_of J i) else operation_of J i
 operation_of (f ∷ J) i = operation_of J i
 
 -- ---- checks
 
--- a check of a channel, from its beginning on and for its length, both in ms
+-- a check (CAC) of a channel, from its beginning on and for its length, both in ms
 pub record Check : Type 0 where
   pub chan : ChanDef
   pub begin : ℕ

@@ -1,30 +1,27 @@
--- Radar and checks, over the whole journal: quiet subchannels, and checks that stand for one.
+-- Radar and checks (CAC, channel availability check), over the whole journal: quiet subchannels, and checks that stand for one.
 use Rattle.std.specs.Prelude.{◌≡◌, ℕ, ◌+◌, ◌<◌, ◌≤◌, List, ◌∷◌, ◌++◌, Some}
 use Rattle.rule_tables.specs.declared.domain.Domain.{Domain}
 use Rattle.chan_def.specs.Covered.{IsCovered}
 use Rattle.chan_def.specs.declared.definition.ChanDef.{ChanDef}
 use Rattle.chan_flags.specs.Lists.{IsRadioChannel}
 use Rattle.dfs_states.specs.Greatest.{IsGreatest}
+use Rattle.dfs_states.specs.declared.moments.TheConstants.{NONOCCUPANCY_MS}
 use Rattle.dfs_states.specs.declared.dfs.Dfs.{Dfs}
 use Rattle.dfs_states.specs.declared.dfs.Dfs.TheVariants.{Usable, Unavailable, Available}
 use Rattle.reg_journal.specs.Facts.{Fact, Journal, radar_met, check_begun, check_dropped}
 use Rattle.reg_journal.specs.Present.{now_of, abilities_of, radio_of}
 use Rattle.reg_journal.specs.Applicable.{region_of}
 
--- how long a subchannel stays unavailable after radar, in ms: 30 minutes
-abbrev pub nonoccupancy : ℕ
-nonoccupancy = 1800000
-
 -- ---- radar
 
--- the radio met radar on the subchannel, and its nonoccupancy ends at this moment
+-- the radio met radar on the subchannel, and its nonoccupancy (NOP, non-occupancy period) ends at this moment
 pub record IsBarred (J : Journal) (r s until : ℕ) : Type 0 where
   pub newer : Journal
   pub chan : ChanDef
   pub older : Journal
   pub met : J ≡ newer ++ radar_met r chan ∷ older
   pub covered : IsCovered chan s
-  pub ends : until ≡ now_of older + nonoccupancy
+  pub ends : until ≡ now_of older + NONOCCUPANCY_MS
 
 -- each nonoccupancy of the subchannel is over
 abbrev pub IsQuiet : Journal → ℕ → ℕ → Type 0

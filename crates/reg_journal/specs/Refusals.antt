@@ -9,6 +9,7 @@ use Rattle.rule_intersect.specs.Tables.{IsTooMany}
 use Rattle.chan_def.specs.Covered.{IsValidDef}
 use Rattle.chan_def.specs.Kinds.{initiates}
 use Rattle.chan_def.specs.declared.definition.ChanDef.{ChanDef}
+use Rattle.chan_def.specs.declared.kind.TheConstants.{MOST_IFACES}
 use Rattle.chan_def.specs.declared.kind.Kind.{Kind}
 use Rattle.chan_def.specs.declared.kind.Kind.TheVariants.{Monitor}
 use Rattle.chan_flags.specs.Verdicts.{IsAbove}
@@ -17,7 +18,8 @@ use Rattle.reg_hints.specs.Element.{IsElementFault}
 use Rattle.reg_hints.specs.Table.{Hinted, Treated, Own, IsOneTooMany}
 use Rattle.reg_hints.specs.declared.element.ElementFault.TheVariants.{Short, Odd, NotLetters}
 use Rattle.reg_journal.specs.Facts.{Journal, hinted, rules_are}
-use Rattle.reg_journal.specs.Present.{Iface, last_moment, most_made, now_of, is_used, profile_of, radios_of, made_of, named, ifaces_on, operation_of, check_of}
+use Rattle.dfs_states.specs.declared.moments.TheConstants.{LAST_MOMENT_MS}
+use Rattle.reg_journal.specs.Present.{Iface, most_made, now_of, is_used, profile_of, radios_of, made_of, named, ifaces_on, operation_of, check_of}
 use Rattle.reg_journal.specs.Applicable.{hints_of, find_domain, global_domains, applies}
 use Rattle.reg_journal.specs.Causes.{◌before◌, Where}
 use Rattle.reg_journal.specs.Permits.{IsLimitOf, BarsOperation, BarsCheck, HasNothingToCheck}
@@ -27,7 +29,7 @@ use Rattle.reg_journal.specs.declared.refusal.Refusal.TheVariants.{MomentBack, M
 -- ---- moments and radios
 
 abbrev pub MomentCauses : Journal → ℕ → Refusal → Type 0
-MomentCauses J m = Where (last_moment < m) (MomentTooLarge m) before Where (m < now_of J) (MomentBack (now_of J))
+MomentCauses J m = Where (LAST_MOMENT_MS < m) (MomentTooLarge m) before Where (m < now_of J) (MomentBack (now_of J))
 
 abbrev pub LacksRadio : Journal → ℕ → Refusal → Type 0
 LacksRadio J r = Where (profile_of J r ≡ None) (NoRadio r)
@@ -38,17 +40,17 @@ RadioAddCauses J r = Where (IsTrue (is_used J r)) (SlotUsed r)
 -- ---- lists of domains
 
 -- the list has too many rows, and so many for the first of its prefixes that has too many
-abbrev pub HasTooMany : List Domain → ℕ → Type 0
-HasTooMany ds rows = (after : ℕ) × IsTooMany ds after rows
+abbrev pub HasTooManyRows : List Domain → ℕ → Type 0
+HasTooManyRows ds rows = (after : ℕ) × IsTooMany ds after rows
 
 -- the list at place k has too many rows
 abbrev pub IsTooLongAt : List (List Domain) → ℕ → Type 0
-IsTooLongAt lists k = (ds : List Domain) × (slice_get lists k ≡ Some ds) × ((rows : ℕ) × HasTooMany ds rows)
+IsTooLongAt lists k = (ds : List Domain) × (slice_get lists k ≡ Some ds) × ((rows : ℕ) × HasTooManyRows ds rows)
 
 -- the first of the lists that has too many rows tells how many
 abbrev pub RowCauses : List (List Domain) → Refusal → Type 0
 RowCauses lists = λ e. (k : ℕ) × IsFirst (IsTooLongAt lists) k
-    × (ds : List Domain) × (slice_get lists k ≡ Some ds) × (rows : ℕ) × HasTooMany ds rows × (e ≡ TooManyRows rows)
+    × (ds : List Domain) × (slice_get lists k ≡ Some ds) × (rows : ℕ) × HasTooManyRows ds rows × (e ≡ TooManyRows rows)
 
 -- the lists that a hint may change: the global one, and those of the radios that are there, by number
 abbrev pub all_lists : List Domain → Journal → List (List Domain)
@@ -70,7 +72,7 @@ ElementCauses body =
     before (λ e. (n : ℕ) × IsElementFault body (Odd n) × (e ≡ ElementOdd n))
     before Where (IsElementFault body NotLetters) ElementNotLetters
 
--- a driver's hint on a radio that manages itself never touches the global list
+-- a driver's hint on a self-managed radio never touches the global list
 abbrev pub AddsFifthCode : Journal → Hinted → Type 0
 AddsFifthCode J (Treated hint) = IsOneTooMany (hints_of J) hint
 AddsFifthCode J (Own r a) = ⊥
@@ -88,7 +90,7 @@ abbrev pub IfaceAddCauses : Journal → ℕ → List ℕ → Refusal → Type 0
 IfaceAddCauses J r name =
     LacksRadio J r
     before Where (IsSome (named J name)) (NameTaken name)
-    before Where ((8 ≤ length (ifaces_on J r)) ⊎ (most_made ≤ made_of J)) Full
+    before Where ((MOST_IFACES ≤ length (ifaces_on J r)) ⊎ (most_made ≤ made_of J)) Full
 
 abbrev pub LacksIface : Journal → List ℕ → Refusal → Type 0
 LacksIface J name = Where (named J name ≡ None) (NoInterface name)

@@ -68,11 +68,11 @@ answer_of J (Own r a) = ByItself
 abbrev pub Hints : List Domain → Journal → Alpha2 → Hinted → Reply → List Fact → Type 0
 Hints db J a hint = Decides (HintCauses db J a hint) (Sweeps db J (HintTaken (answer_of J hint)) (hinted hint) (ifaces_of J))
 
--- a driver's hint, on a radio that manages itself or not
+-- a driver's hint, on a self-managed radio or not
 abbrev pub driver_hint : Journal → ℕ → Alpha2 → Hinted
 driver_hint J r a = cond (is_self_managed J r) (Own r a) (Treated (Driver r a))
 
--- a country element is not heeded by a radio that ignores them or manages itself
+-- a country element is not heeded by a radio that ignores them or is self-managed
 abbrev pub element_hint : Journal → ℕ → Alpha2 → Hinted
 element_hint J r a = Treated (ElementHint r a ((abilities_of J r).deaf || is_self_managed J r))
 
@@ -136,7 +136,7 @@ Replies db J (IfaceInfo name) failed = Decides (LacksIface J name)
 abbrev pub Steps : List Domain → Journal → Request → Bool → Reply → Journal → Type 0
 Steps db J q failed reply next = (facts : List Fact) × Replies db J q failed reply facts × (next ≡ after facts J)
 
--- A radio has a number and a profile that there are; a radio's own rules carry neither a check time nor a WMM rule.
+-- A radio has a number and a profile that there are; a radio's custom rules carry neither a check time nor a WMM rule.
 abbrev pub IsAskable : Request → Type 0
 IsAskable (RadioAdd r profile) = (r < 8) × IsProfile profile
 IsAskable (RadioRules r rules) = All (λ rule. (rule.cac_s ≡ 0) × (rule.wmm ≡ None)) rules

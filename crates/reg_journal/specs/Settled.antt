@@ -13,8 +13,8 @@ use Rattle.reg_journal.specs.Present.{Iface, Check, abilities_of, check_of, ifac
 use Rattle.reg_journal.specs.Radar.{IsQuiet}
 use Rattle.reg_journal.specs.Sweep.{RegionChangedInCheck}
 
--- The running check of the interface may go on: the radio has each subchannel and the width; no rule forbids the channel; for an
--- interface that sends first, where it has to be checked for radar, the radio can check so wide, and no nonoccupancy runs; and
+-- The running check (CAC) of the interface may go on: the radio has each subchannel and the width; no rule forbids the channel; for an
+-- interface that sends first, where it has to be checked for radar, the radio can check so wide, and no nonoccupancy (NOP) runs; and
 -- the radio's region is still that of the check's beginning.
 pub record IsCheckPermitted (db : List Domain) (J : Journal) (x : Iface) (k : Check) : Type 0 where
   pub has_width : HasWidth (asked_by J x k.chan)

@@ -1,9 +1,10 @@
 //! What comes of a request to operations and checks other than its own.
 
-ghost use Rattle.std.specs.Prelude.{◌≡◌, ◌==◌, ◌<◌, ◌≤◌, ◌↔◌, [], ◌∷◌, ◌++◌, length, slice_get, IsTrue, MatchBool};
+ghost use Rattle.std.specs.Prelude.{◌≡◌, ◌==◌, ◌<◌, ◌↔◌, [], ◌∷◌, ◌++◌, length, slice_get, IsTrue, MatchBool};
 ghost use Rattle.std.specs.Option.{option_copied};
 
 use radio_drv::Name;
+use reg_lists::Few;
 use std::marker::Model;
 
 /// What came to an interface.
@@ -17,22 +18,22 @@ pub enum Effect {
     Power(Name, u16),
 }
 
+/// The most effects of a reply: one for each of eight interfaces on each of eight radios.
+pub const MOST_EFFECTS: usize = 64;
+
 /// At most 64 effects, in order.
 #[derive(Debug, Drop)]
 pub struct Effects {
-    items: [Effect; 64],
-    count: usize,
+    items: Few<Effect, MOST_EFFECTS>,
 }
 
 impl Model for Effects {
-    ghost use Rattle.std.specs.Prelude.{List, take, ◌≤◌};
+    ghost use Rattle.std.specs.Prelude.{List};
     ghost use Rattle.reg_journal.specs.declared.effects.Effect.{Effect};
 
     ghost Value = { List Effect };
 
-    ghost view = { λ e. take e.count e.items };
-
-    ghost invariant = { λ e. e.count ≤ 64 };
+    ghost view = { λ e. e.items };
 }
 
 /// Stands in the places that hold no effect.
@@ -49,48 +50,43 @@ impl Effects {
         ensures empty { result ≡ [] }
     {
         Effects {
-            items: [filler(); 64],
-            count: 0,
+            items: Few::new(filler()),
         }
     }
 
     /// Appends the effect, or answers false and changes nothing exactly where there are 64.
     pub fn push(&mut self, item: Effect) -> bool
-        ensures full { IsTrue result ↔ (length self.old < 64) }
+        ensures full { IsTrue result ↔ (length self.old < MOST_EFFECTS) }
         ensures pushed { MatchBool result (self.new ≡ self.old ++ item ∷ []) (self.new ≡ self.old) }
     {
-        if self.count == 64 {
-            return false;
-        }
-        self.items[self.count] = item;
-        self.count += 1;
-        true
+        self.items.push(item)
     }
 
     /// How many there are.
     pub fn len(&self) -> usize
         ensures len { result ≡ length self.now }
     {
-        self.as_slice().len()
+        self.items.len()
     }
 
+    /// Whether there is none.
     pub fn is_empty(&self) -> bool
         ensures empty { result ≡ (length self.now == 0) }
     {
-        self.as_slice().is_empty()
+        self.items.is_empty()
     }
 
     /// The effect at place `k`, counted from 0, or `None` past the end.
     pub fn get(&self, k: usize) -> Option<&Effect>
         ensures item { option_copied result ≡ slice_get self.now k }
     {
-        self.as_slice().get(k)
+        self.items.get(k)
     }
 
     /// All of them.
     pub fn as_slice(&self) -> &[Effect]
         ensures items { result.now ≡ self.now }
     {
-        &self.items[..self.count]
+        self.items.as_slice()
     }
 }

@@ -10,7 +10,7 @@ mod reply;
 mod report;
 mod request;
 
-pub use effects::{Effect, Effects};
+pub use effects::{Effect, Effects, MOST_EFFECTS};
 pub use laws::{granted_is_not_barred, one_reply, what_may_go_on_is_not_swept};
 pub use lists::{ChanList, IfaceList, RowList, SectionList};
 pub use refusal::Refusal;

@@ -47,9 +47,9 @@ pub enum Refusal {
     Power(u16),
     /// The radio can't detect radar so wide, in MHz.
     RadioLacksRadarWidth(u16),
-    /// There was radar on the subchannel, and its nonoccupancy isn't over.
+    /// There was radar on the subchannel, and its nonoccupancy (NOP) isn't over.
     Radar(u32),
-    /// No check stands for the subchannel.
+    /// No check (CAC) stands for the subchannel.
     Unchecked(u32),
     /// The driver failed.
     DriverFailed,

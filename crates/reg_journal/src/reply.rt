@@ -11,7 +11,7 @@ use reg_hints::{RadioNo, Treatment};
 pub enum HintAnswer {
     /// By the table of hints.
     Treated(Treatment),
-    /// As a driver's on a radio that manages itself: it sets that radio's own domain alone.
+    /// As a driver's on a self-managed radio: it sets that radio's own domain alone.
     Own,
 }
 
@@ -24,7 +24,7 @@ pub enum Answer {
     Hint(HintAnswer),
     /// The operation started with this power, in mBm.
     Started(u16),
-    /// The check runs for so long, in ms.
+    /// The check (CAC) runs for so long, in ms.
     Checking(u32),
     /// Refused, with nothing changed.
     Refused(Refusal),

@@ -20,12 +20,12 @@ pub enum Request {
     },
     /// The radio goes.
     RadioDel(RadioNo),
-    /// The radio's own rules (`wiphy_apply_custom_regulatory`).
+    /// The radio's custom rules (`wiphy_apply_custom_regulatory`).
     RadioRules {
         radio: RadioNo,
         rules: RuleList,
     },
-    /// The radio heard a country element with this body (`regulatory_hint_country_ie`).
+    /// The radio received a country element with this body (`regulatory_hint_country_ie`).
     Element {
         radio: RadioNo,
         body: Bytes,
@@ -73,7 +73,7 @@ pub enum Request {
         name: Name,
         kind: Kind,
     },
-    /// The interface checks the channel for radar (`NL80211_CMD_RADAR_DETECT`).
+    /// The interface checks the channel for radar (CAC, `NL80211_CMD_RADAR_DETECT`).
     Check {
         name: Name,
         chan: ChanDef,

@@ -4,10 +4,10 @@ use Rattle.std.specs.Prelude.{IfSome, ◌⊎◌}
 use Rattle.std.specs.declared.alloc.Global.{Global}
 use Rattle.std.specs.declared.string.String.{String}
 use Rattle.rule_tables.specs.declared.domain.Domain.{Domain}
-use Rattle.regtool.specs.Answer.{Ends}
-use Rattle.regtool.specs.Conversions.{Names, IsAccepted, IsOutputOf, IsInputFault, Gives, name_of}
+use Rattle.regtool.specs.Answer.{EndsWith}
+use Rattle.regtool.specs.Conversions.{NamesConversion, IsAccepted, IsOutputOf, IsInputFault, GivesOutput, command_name}
 use Rattle.regtool.specs.Converted.{HasInput, IsConverted, MayConvert, WritesOutput}
-use Rattle.regtool.specs.Devices.{Device, Devices, IsRead, input_limit}
+use Rattle.regtool.specs.Devices.{StreamAround, Devices, IsRead, input_limit}
 use Rattle.regtool.specs.declared.conversion.Conversion.{Conversion}
 use Rattle.regtool.specs.declared.conversion.Conversion.TheVariants.{Compile, Decompile, Check}
 use Rattle.regtool.specs.declared.status.InputFault.{InputFault}
@@ -22,7 +22,7 @@ of_told there bytes P told h = subst (λ o. IfSome o P) told h
 -- ---- words
 
 -- commands of one name are the same: their names have different lengths
-name_of-injective : (c d : Conversion) → length (name_of c) ≡ length (name_of d) → c ≡ d
+name_of-injective : (c d : Conversion) → length (command_name c) ≡ length (command_name d) → c ≡ d
 name_of-injective Compile Compile same = refl
 name_of-injective Compile Decompile same = absurd (omega (arith, same))
 name_of-injective Compile Check same = absurd (omega (arith, same))
@@ -33,14 +33,14 @@ name_of-injective Check Compile same = absurd (omega (arith, same))
 name_of-injective Check Decompile same = absurd (omega (arith, same))
 name_of-injective Check Check same = refl
 
-pub Names-unique : (words : List (String Global)) (c d : Conversion) → Names words c → Names words d → c ≡ d
+pub Names-unique : (words : List (String Global)) (c d : Conversion) → NamesConversion words c → NamesConversion words d → c ≡ d
 Names-unique words c d one other =
     name_of-injective c d (ap (λ names. length (get_or names 0 [])) (sym one ∙ other))
 
 -- ---- the whole output
 
 -- the output that was given for the input is that of the database as which it is accepted
-same_output : (c : Conversion) (input : List ℕ) (ds : List Domain) (bytes : List ℕ) → IsAccepted c input ds → Gives c input bytes → IsOutputOf c ds bytes
+same_output : (c : Conversion) (input : List ℕ) (ds : List Domain) (bytes : List ℕ) → IsAccepted c input ds → GivesOutput c input bytes → IsOutputOf c ds bytes
 same_output c input ds bytes accepted (es, other, output) =
     subst (λ fs. IsOutputOf c fs bytes) (StandsFor-unique c input es ds other.stands_for accepted.stands_for) output
 
@@ -65,11 +65,11 @@ completed words d c TooLong input ds (longer, output) may =
 -- ---- the fault
 
 -- an input for which an output was given has no fault
-no_output : (c : Conversion) (input : List ℕ) (bytes : List ℕ) (fault : InputFault) → Gives c input bytes → IsInputFault c input fault → ⊥
+no_output : (c : Conversion) (input : List ℕ) (bytes : List ℕ) (fault : InputFault) → GivesOutput c input bytes → IsInputFault c input fault → ⊥
 no_output c input bytes fault (ds, accepted, output) h = IsAccepted-no_fault c input ds fault accepted h
 
 pub told_fault : (words : List (String Global)) (d : Devices) (c : Conversion) (status : Status) (input : List ℕ) (fault : InputFault)
-    → IsConverted c d.input d.output status → HasInput words d c input → length input ≤ input_limit → IsInputFault c input fault → Ends status (Refused fault)
+    → IsConverted c d.input d.output status → HasInput words d c input → length input ≤ input_limit → IsInputFault c input fault → EndsWith status (Refused fault)
 told_fault words d c Done input fault read has within h =
     let same : input ≡ read.good.given = of_told _ input _ has.told read.good.all in
     let (bytes, gives, appends) = read.good.holds in
@@ -91,14 +91,14 @@ told_fault words d c TooLong input fault (longer, output) has within h =
 -- ---- the length
 
 -- what was read is no longer than the limit
-pub not_longer : (input : Device) (given : List ℕ) (P : List ℕ → Type 0) → input.before ≡ Some given → input_limit < length given → IsRead input P → ⊥
+pub not_longer : (input : StreamAround) (given : List ℕ) (P : List ℕ → Type 0) → input.before ≡ Some given → input_limit < length given → IsRead input P → ⊥
 not_longer input given P told above read =
     let same : given ≡ read.good.given = of_told _ given _ told read.good.all in
     let long : input_limit < length read.good.given = subst (λ xs. input_limit < length xs) same above in
     omega (arith, long, read.good.within)
 
 pub told_length : (words : List (String Global)) (d : Devices) (c : Conversion) (status : Status) (input : List ℕ)
-    → IsConverted c d.input d.output status → HasInput words d c input → input_limit < length input → Ends status TooLong
+    → IsConverted c d.input d.output status → HasInput words d c input → input_limit < length input → EndsWith status TooLong
 told_length words d c Done input read has above = absurd (not_longer d.input input _ has.told above read)
 told_length words d c Usage input none has above = absurd none
 told_length words d c (Refused fault) input (read, output) has above = absurd (not_longer d.input input _ has.told above read)

@@ -11,12 +11,12 @@ use Rattle.rule_tables.specs.declared.domain.Domain.{Domain}
 use Rattle.rule_tables.specs.declared.file_fault.DbFault.{DbFault}
 use Rattle.db_reader.proofs.OneDatabase.{ReadsAs-unique}
 use Rattle.db_reader.proofs.OneFault.{IsDbFault-unique, ReadsAs-no_fault}
-use Rattle.reg_core.specs.Heard.{driver_at}
-use Rattle.regtool.specs.Answer.{Ends}
+use Rattle.reg_core.specs.DriverRows.{driver_at}
+use Rattle.regtool.specs.Answer.{EndsWith}
 use Rattle.regtool.specs.Devices.{AreGood, Devices, HasFault, IsRead, input_limit}
 use Rattle.regtool.specs.Driven.{AreSteady, IsUnsteady}
 use Rattle.regtool.specs.Output.{IsOutput, ScriptGives}
-use Rattle.regtool.specs.Run.{HasDatabase, HasFile, HasInputs, HasScript, IsAnswered, IsNoDatabase, IsRun, MayRun, WritesReplies}
+use Rattle.regtool.specs.Run.{HasDatabase, HasFile, HasInputs, HasScript, IsAnswered, IsNoDatabase, IsRunStatus, MayRun, WritesReplies}
 use Rattle.regtool.specs.declared.status.InputFault.TheVariants.{Database}
 use Rattle.regtool.specs.declared.status.Status.{Status}
 use Rattle.regtool.specs.declared.status.Status.TheVariants.{Done, Usage, Refused, ReadFault, WriteFault, NoMemory, TooLong}
@@ -83,7 +83,7 @@ answered d db script steady done =
     (done.text, (done.last, subst (λ f. ScriptGives db script done.text f done.last) none done.gives), done.written)
 
 pub ran_whole : (words : List (String Global)) (d : Devices) (name : List ℕ) (status : Status) (db : List Domain) (script : List ℕ)
-    → (may : MayRun words d db script) → may.has_script.file.name ≡ name → IsRun d name status → (status ≡ NoMemory) ⊎ ((status ≡ Done) × WritesReplies d db script)
+    → (may : MayRun words d db script) → may.has_script.file.name ≡ name → IsRunStatus d name status → (status ≡ NoMemory) ⊎ ((status ≡ Done) × WritesReplies d db script)
 ran_whole words d name Done db script may same run =
     let (text, output, written) = answered d db script may.steady (same_script words d name db script _ may.has_script same run) in
     inr (refl, record { at_end = (at_end words d name db script _ may.has_script same run).at_end; text = text; output = output; written = written })
@@ -110,7 +110,7 @@ no_database words d name bytes fault P file same is there =
     ReadsAs-no_fault bytes db fault reads is
 
 no_database_but : (words : List (String Global)) (d : Devices) (name bytes : List ℕ) (fault : DbFault) (status : Status) → (file : HasFile words d bytes) → file.name ≡ name → length bytes ≤ input_limit → IsDbFault bytes fault
-    → IsNoDatabase (d.files.before name) d.files.faults_before d.files.faults_after status → Ends status (Refused (Database fault))
+    → IsNoDatabase (d.files.before name) d.files.faults_before d.files.faults_after status → EndsWith status (Refused (Database fault))
 no_database_but words d name bytes fault (Refused other) file same within is none =
     let (f, found, told) = same_file words d name bytes _ file same none in
     inr (ap Refused (told ∙ ap Database (IsDbFault-unique bytes f fault found is)))
@@ -125,7 +125,7 @@ no_database_but words d name bytes fault Usage file same within is none = absurd
 no_database_but words d name bytes fault WriteFault file same within is none = absurd none
 
 pub ran_fault : (words : List (String Global)) (d : Devices) (name : List ℕ) (status : Status) (bytes : List ℕ) (fault : DbFault)
-    → (file : HasFile words d bytes) → file.name ≡ name → length bytes ≤ input_limit → IsDbFault bytes fault → IsRun d name status → Ends status (Refused (Database fault))
+    → (file : HasFile words d bytes) → file.name ≡ name → length bytes ≤ input_limit → IsDbFault bytes fault → IsRunStatus d name status → EndsWith status (Refused (Database fault))
 ran_fault words d name Done bytes fault file same within is run = absurd (no_database words d name bytes fault _ file same is run)
 ran_fault words d name Usage bytes fault file same within is run = absurd run
 ran_fault words d name (Refused other) bytes fault file same within is (none, input, silent) = no_database_but words d name bytes fault (Refused other) file same within is none
@@ -146,7 +146,7 @@ long_file words d name bytes P file same above good =
     omega (arith, long, good.within)
 
 pub ran_long_file : (words : List (String Global)) (d : Devices) (name : List ℕ) (status : Status) (bytes : List ℕ)
-    → (file : HasFile words d bytes) → file.name ≡ name → input_limit < length bytes → IsRun d name status → Ends status TooLong
+    → (file : HasFile words d bytes) → file.name ≡ name → input_limit < length bytes → IsRunStatus d name status → EndsWith status TooLong
 ran_long_file words d name Done bytes file same above run = absurd (long_file words d name bytes _ file same above run)
 ran_long_file words d name Usage bytes file same above run = absurd run
 ran_long_file words d name (Refused fault) bytes file same above (none, input, silent) = absurd (long_file words d name bytes _ file same above none)
@@ -163,7 +163,7 @@ long_script : (words : List (String Global)) (d : Devices) (name : List ℕ) (db
 long_script words d name db script P has same above there = not_longer d.input script _ has.told above (at_end words d name db script P has same there)
 
 pub ran_long_script : (words : List (String Global)) (d : Devices) (name : List ℕ) (status : Status) (db : List Domain) (script : List ℕ)
-    → (has : HasScript words d db script) → has.file.name ≡ name → input_limit < length script → IsRun d name status → Ends status TooLong
+    → (has : HasScript words d db script) → has.file.name ≡ name → input_limit < length script → IsRunStatus d name status → EndsWith status TooLong
 ran_long_script words d name Done db script has same above run = absurd (long_script words d name db script _ has same above run)
 ran_long_script words d name Usage db script has same above run = absurd run
 ran_long_script words d name (Refused fault) db script has same above (none, input, silent) = inl (accepted_file words d name db script (Refused fault) has same none)

@@ -3,25 +3,25 @@ use Rattle.std.proofs.Common.{◌≡◌, ℕ, ◌<◌, List, ap, subst, arith}
 use Rattle.rule_tables.specs.declared.domain.Domain.{Domain}
 use Rattle.db_reader.proofs.OneDatabase.{ReadsAs-unique}
 use Rattle.db_reader.proofs.OneFault.{IsDbFault-unique, ReadsAs-no_fault}
-use Rattle.db_text.proofs.OneAnswer.{TextOf-unique, TextOf-no_fault, IsTextFault-unique}
+use Rattle.rule_text.proofs.OneAnswer.{TextOf-unique, TextOf-no_fault, IsTextFault-unique}
 use Rattle.db_text.specs.Printed.{IsFirstTime}
-use Rattle.db_writer.specs.LaidOut.{IsWithin, EndsIn}
+use Rattle.db_writer.specs.LaidOut.{IsWithinReach, EndsIn}
 use Rattle.db_writer.proofs.Unique.{EndsIn-unique}
 use Rattle.regtool.proofs.FirstTime.{IsFirstTime-unique, LackTimes-none}
-use Rattle.regtool.specs.Conversions.{StandsFor, IsAccepted, IsInputFault}
+use Rattle.regtool.specs.Conversions.{InputStandsFor, IsAccepted, IsInputFault}
 use Rattle.regtool.specs.declared.conversion.Conversion.{Conversion}
 use Rattle.regtool.specs.declared.conversion.Conversion.TheVariants.{Compile, Decompile, Check}
 use Rattle.regtool.specs.declared.status.InputFault.{InputFault}
 use Rattle.regtool.specs.declared.status.InputFault.TheVariants.{Text, Database, Layout, CacTime}
 
 -- an input stands for one database
-pub StandsFor-unique : (c : Conversion) (input : List ℕ) (ds es : List Domain) → StandsFor c input ds → StandsFor c input es → ds ≡ es
+pub StandsFor-unique : (c : Conversion) (input : List ℕ) (ds es : List Domain) → InputStandsFor c input ds → InputStandsFor c input es → ds ≡ es
 StandsFor-unique Compile text ds es one other = TextOf-unique text ds es one other
 StandsFor-unique Decompile bytes ds es one other = ReadsAs-unique bytes ds es one other
 StandsFor-unique Check bytes ds es one other = ReadsAs-unique bytes ds es one other
 
 -- a database whose file is within the reach of pointers isn't too large
-not_too_large : (ds : List Domain) (words : ℕ) → IsWithin ds → EndsIn ds words → 65535 < words → ⊥
+not_too_large : (ds : List Domain) (words : ℕ) → IsWithinReach ds → EndsIn ds words → 65535 < words → ⊥
 not_too_large ds words (place, ends, small) ends' above =
     let same = EndsIn-unique ds place words ends ends' in
     omega (arith, same, small, above)

@@ -16,7 +16,7 @@ use Rattle.reg_journal.specs.declared.reply.Answer.TheVariants.{Started}
 use Rattle.reg_journal.specs.declared.reply.Reply.{Reply}
 use Rattle.reg_journal.specs.declared.request.Request.{Request}
 use Rattle.reg_journal.specs.declared.request.Request.TheVariants.{At, RadioAdd, UserHint, IfaceAdd, Start, Stop}
-use Rattle.reg_core.specs.Heard.{told_after}
+use Rattle.reg_core.specs.DriverRows.{told_after}
 use Rattle.reg_core.specs.Stepping.{IsBuilt}
 
 -- these facts tell the driver of the radio no check

@@ -20,19 +20,19 @@ use Rattle.reg_journal.specs.declared.reply.Reply.{Reply}
 use Rattle.reg_journal.specs.declared.reply.Reply.TheVariants.{Plain}
 use Rattle.reg_journal.specs.declared.request.Request.{Request}
 use Rattle.reg_journal.specs.declared.request.Request.TheVariants.{At, RadioAdd, UserHint, IfaceAdd, Start, Stop}
-use Rattle.reg_core.specs.Heard.{driven_radio, told_after}
+use Rattle.reg_core.specs.DriverRows.{driven_radio, told_after}
 use Rattle.reg_core.specs.Kept.{StandsFor}
 use Rattle.reg_core.specs.Stepping.{IsBuilt, IsReady, IsStep, is_failed}
-use Rattle.reg_core.specs.declared.core_parts.Core.{Core}
+use Rattle.reg_core.specs.declared.core_state.Core.{Core}
 use Rattle.iw_commands.specs.Lines.{Says}
 use Rattle.iw_commands.specs.Printed.{AppendsTextOf, IsPlain, IsTextOf, line_fault_text}
-use Rattle.iw_commands.specs.Scripts.{lines_of}
+use Rattle.iw_commands.specs.Scripts.{script_lines}
 use Rattle.iw_commands.specs.declared.fault.LineFault.{LineFault}
-use Rattle.regtool.specs.Devices.{Device, HasFault, Row}
+use Rattle.regtool.specs.Devices.{StreamAround, HasFault, DriversAround}
 use Rattle.regtool.specs.Driven.{AreTold, Follow, HaveGoneOn, IsAt}
 use Rattle.regtool.specs.Output.{HaveFailed, LineGives, LinesGive}
 use Rattle.regtool.specs.Run.{IsAnswered, IsFront, StopsBetween, StopsWithin}
-use Rattle.regtool.specs.Turns.{IsSoFar, IsTurn}
+use Rattle.regtool.specs.inner.Turns.{IsRunSoFar, IsTurn}
 use Rattle.regtool.proofs.Drivers.{taken, HaveFailed-of, HaveGoneOn-more, HaveGoneOn-none, HaveGoneOn-step, failed_of}
 use Rattle.regtool.proofs.Scripts.{LinesGive-more}
 use Rattle.regtool.proofs.Told.{told_next}
@@ -132,7 +132,7 @@ appends_more (Some xs) None c text more one other = absurd one
 appends_more (Some xs) (Some ys) None text more one other = absurd other
 appends_more (Some xs) (Some ys) (Some zs) text more one other = other ∙ ap (λ l. l ++ more) one ∙ append_assoc xs text more
 
-pub so_far_none : (db : List Domain) (script : List ℕ) (output : Option (List ℕ)) (core : Core) (heard : List (Option Seen)) → IsAt db [] core heard → IsSoFar db script (lines_of script) output output core heard heard
+pub so_far_none : (db : List Domain) (script : List ℕ) (output : Option (List ℕ)) (core : Core) (heard : List (Option Seen)) → IsAt db [] core heard → IsRunSoFar db script (script_lines script) output output core heard heard
 so_far_none db script output core heard here = record {
   text = [];
   failed = [];
@@ -152,7 +152,7 @@ front_more db script line left text failed answer failed_here J next front gives
 }
 
 pub so_far_more : (db : List Domain) (script line : List ℕ) (left : List (List ℕ)) (a b c : Option (List ℕ)) (answer : List ℕ) (core core' : Core) (first mid last : List (Option Seen))
-    → (so : IsSoFar db script (line ∷ left) a b core first mid) → IsTurn db so.journal line answer core' mid last → Appends b c answer → IsSoFar db script left a c core' first last
+    → (so : IsRunSoFar db script (line ∷ left) a b core first mid) → IsTurn db so.journal line answer core' mid last → Appends b c answer → IsRunSoFar db script left a c core' first last
 so_far_more db script line left a b c answer core core' first mid last so turn written = record {
   text = so.text ++ answer;
   failed = so.failed ++ turn.failed;
@@ -165,8 +165,8 @@ so_far_more db script line left a b c answer core core' first mid last so turn w
 
 -- ---- ends
 
-pub ends_whole : (db : List Domain) (script : List ℕ) (output : Device) (drivers : Row) (core : Core)
-    → IsSoFar db script [] output.before output.after core drivers.before drivers.after → IsAnswered db script output drivers
+pub ends_whole : (db : List Domain) (script : List ℕ) (output : StreamAround) (drivers : DriversAround) (core : Core)
+    → IsRunSoFar db script [] output.before output.after core drivers.before drivers.after → IsAnswered db script output drivers
 ends_whole db script output drivers core so = record {
   text = so.text;
   failed = so.failed;
@@ -176,8 +176,8 @@ ends_whole db script output drivers core so = record {
   follow = record { on_air = so.there.follows; told = so.there.told; gone_on = so.gone_on };
 }
 
-pub ends_within : (db : List Domain) (script line : List ℕ) (left : List (List ℕ)) (output : Device) (b : Option (List ℕ)) (drivers : Row) (answer : List ℕ) (core core' : Core) (mid : List (Option Seen))
-    → (so : IsSoFar db script (line ∷ left) output.before b core drivers.before mid) → IsTurn db so.journal line answer core' mid drivers.after → AppendsFront b output.after answer
+pub ends_within : (db : List Domain) (script line : List ℕ) (left : List (List ℕ)) (output : StreamAround) (b : Option (List ℕ)) (drivers : DriversAround) (answer : List ℕ) (core core' : Core) (mid : List (Option Seen))
+    → (so : IsRunSoFar db script (line ∷ left) output.before b core drivers.before mid) → IsTurn db so.journal line answer core' mid drivers.after → AppendsFront b output.after answer
     → StopsWithin db script output drivers
 ends_within db script line left output b drivers answer core core' mid so turn (n, within, written) = record {
   line = line;
@@ -196,8 +196,8 @@ ends_within db script line left output b drivers answer core core' mid so turn (
   follow = record { on_air = turn.there.follows; told = turn.there.told; gone_on = HaveGoneOn-more so.failed turn.failed drivers.before mid drivers.after so.gone_on turn.gone_on };
 }
 
-pub ends_between : (db : List Domain) (script line : List ℕ) (left : List (List ℕ)) (output : Device) (drivers : Row) (core core' : Core) (mid : List (Option Seen))
-    → (so : IsSoFar db script (line ∷ left) output.before output.after core drivers.before mid)
+pub ends_between : (db : List Domain) (script line : List ℕ) (left : List (List ℕ)) (output : StreamAround) (drivers : DriversAround) (core core' : Core) (mid : List (Option Seen))
+    → (so : IsRunSoFar db script (line ∷ left) output.before output.after core drivers.before mid)
     → (drivers.after ≡ mid) ⊎ ((answer : List ℕ) × IsTurn db so.journal line answer core' mid drivers.after)
     → StopsBetween db script output drivers
 ends_between db script line left output drivers core core' mid so (inl same) = record {
@@ -278,20 +278,20 @@ all_of_written (Err e) a b piece good h = absurd cc
 abbrev pub Turns : {E : Type 0} → Result (Unit {0}) E → List ℕ → List ℕ → Core → Core → List (Option Seen) → List (Option Seen) → Type 0
 Turns r line answer core core' mid last = OnOk r ((db : List Domain) (J : Journal) → IsAt db J core mid → IsTurn db J line answer core' mid last)
 
-pub stops_between : {E : Type 0} (r : Result (Unit {0}) E) (db : List Domain) (script line : List ℕ) (lines left : List (List ℕ)) (output : Device) (drivers : Row) (core core' : Core) (mid : List (Option Seen))
+pub stops_between : {E : Type 0} (r : Result (Unit {0}) E) (db : List Domain) (script line : List ℕ) (lines left : List (List ℕ)) (output : StreamAround) (drivers : DriversAround) (core core' : Core) (mid : List (Option Seen))
     → lines ≡ line ∷ left → true ≡ is_err r
     → OnErr r ((db : List Domain) (J : Journal) → IsAt db J core mid → (drivers.after ≡ mid) ⊎ ((answer : List ℕ) × IsTurn db J line answer core' mid drivers.after))
-    → IsSoFar db script lines output.before output.after core drivers.before mid → StopsBetween db script output drivers
+    → IsRunSoFar db script lines output.before output.after core drivers.before mid → StopsBetween db script output drivers
 stops_between r db script line lines left output drivers core core' mid first bad stopped so =
-    let here = subst (λ ls. IsSoFar db script ls output.before output.after core drivers.before mid) first so in
+    let here = subst (λ ls. IsRunSoFar db script ls output.before output.after core drivers.before mid) first so in
     ends_between db script line left output drivers core core' mid here (on_err r _ bad stopped db here.journal here.there)
 
-pub stops_within : {E F : Type 0} (r : Result (Unit {0}) E) (w : Result (Unit {0}) F) (db : List Domain) (script line answer piece : List ℕ) (lines left : List (List ℕ)) (output : Device) (drivers : Row) (b : Option (List ℕ)) (before : ℕ) (core core' : Core) (mid : List (Option Seen))
+pub stops_within : {E F : Type 0} (r : Result (Unit {0}) E) (w : Result (Unit {0}) F) (db : List Domain) (script line answer piece : List ℕ) (lines left : List (List ℕ)) (output : StreamAround) (drivers : DriversAround) (b : Option (List ℕ)) (before : ℕ) (core core' : Core) (mid : List (Option Seen))
     → lines ≡ line ∷ left → false ≡ is_err r → true ≡ is_err w → piece ≡ answer → output.faults_before ≤ before
     → Turns r line answer core core' mid drivers.after → AppendsAtMost b output.after w piece → HasCause before output.faults_after w
-    → IsSoFar db script lines output.before b core drivers.before mid → HasFault output × StopsWithin db script output drivers
+    → IsRunSoFar db script lines output.before b core drivers.before mid → HasFault output × StopsWithin db script output drivers
 stops_within r w db script line answer piece lines left output drivers b before core core' mid first good bad same later turns written cause so =
-    let here = subst (λ ls. IsSoFar db script ls output.before b core drivers.before mid) first so in
+    let here = subst (λ ls. IsRunSoFar db script ls output.before b core drivers.before mid) first so in
     let rose = on_err w (Rose before output.faults_after) bad cause.failed in (
       omega (arith, rose, later),
       ends_within db script line left output b drivers answer core core' mid here (on_ok r _ good turns db here.journal here.there)
@@ -301,8 +301,8 @@ stops_within r w db script line answer piece lines left output drivers b before 
 pub goes_on : {E F : Type 0} (r : Result (Unit {0}) E) (w : Result (Unit {0}) F) (db : List Domain) (script line answer piece : List ℕ) (lines left : List (List ℕ)) (a b c : Option (List ℕ)) (core core' : Core) (first mid last : List (Option Seen))
     → lines ≡ line ∷ left → false ≡ is_err r → false ≡ is_err w → piece ≡ answer
     → Turns r line answer core core' mid last → AppendsAtMost b c w piece
-    → IsSoFar db script lines a b core first mid → IsSoFar db script left a c core' first last
+    → IsRunSoFar db script lines a b core first mid → IsRunSoFar db script left a c core' first last
 goes_on r w db script line answer piece lines left a b c core core' first mid last there good well same turns written so =
-    let here = subst (λ ls. IsSoFar db script ls a b core first mid) there so in
+    let here = subst (λ ls. IsRunSoFar db script ls a b core first mid) there so in
     so_far_more db script line left a b c answer core core' first mid last here (on_ok r _ good turns db here.journal here.there)
     (subst (Appends b c) same (all_of_written w b c piece well written))

@@ -5,10 +5,10 @@ use Rattle.std.specs.declared.string.String.{String}
 use Rattle.rule_tables.specs.FileFaults.{IsDbFault}
 use Rattle.rule_tables.specs.declared.domain.Domain.{Domain}
 use Rattle.rule_tables.specs.declared.file_fault.DbFault.{DbFault}
-use Rattle.regtool.specs.Conversions.{IsConversion, IsInputFault, Names}
+use Rattle.regtool.specs.Conversions.{IsConversion, IsInputFault, NamesConversion}
 use Rattle.regtool.specs.Converted.{HasInput, IsConverted, MayConvert, WritesOutput}
 use Rattle.regtool.specs.Devices.{AreLeft, Devices, IsUnread, IsUntouched, input_limit}
-use Rattle.regtool.specs.Run.{HasFile, HasScript, IsRun, IsSilent, MayRun, NamesRun, WritesReplies}
+use Rattle.regtool.specs.Run.{HasFile, HasScript, IsRunStatus, IsSilent, MayRun, NamesRun, WritesReplies}
 use Rattle.regtool.specs.declared.conversion.Conversion.{Conversion}
 use Rattle.regtool.specs.declared.status.InputFault.{InputFault}
 use Rattle.regtool.specs.declared.status.InputFault.TheVariants.{Database}
@@ -16,26 +16,26 @@ use Rattle.regtool.specs.declared.status.Status.{Status}
 use Rattle.regtool.specs.declared.status.Status.TheVariants.{Done, Usage, Refused, NoMemory, TooLong}
 
 -- the words are the form of a command
-abbrev pub IsForm : List (String Global) → Type 0
-IsForm words = IsConversion words ⊎ ((name : List ℕ) × NamesRun words name)
+abbrev pub IsCommand : List (String Global) → Type 0
+IsCommand words = IsConversion words ⊎ ((name : List ℕ) × NamesRun words name)
 
 -- A conversion ended so. It reads no file, and tells the drivers nothing.
 abbrev pub ConvertsTo : List (String Global) → Devices → Status → Type 0
 ConvertsTo words d status =
-    (command : Conversion) × Names words command × IsConverted command d.input d.output status × IsUnread d.files × AreLeft d.drivers
+    (command : Conversion) × NamesConversion words command × IsConverted command d.input d.output status × IsUnread d.files × AreLeft d.drivers
 
 -- `run` ended so
 abbrev pub RunsTo : List (String Global) → Devices → Status → Type 0
-RunsTo words d status = (name : List ℕ) × NamesRun words name × IsRun d name status
+RunsTo words d status = (name : List ℕ) × NamesRun words name × IsRunStatus d name status
 
 -- What the program ends with.
-abbrev pub IsAnswer : List (String Global) → Devices → Status → Type 0
-IsAnswer words d Usage = (IsForm words → ⊥) × IsUnread d.files × IsUntouched d.input × IsSilent d
-IsAnswer words d status = ConvertsTo words d status ⊎ RunsTo words d status
+abbrev pub IsStatusOf : List (String Global) → Devices → Status → Type 0
+IsStatusOf words d Usage = (IsCommand words → ⊥) × IsUnread d.files × IsUntouched d.input × IsSilent d
+IsStatusOf words d status = ConvertsTo words d status ⊎ RunsTo words d status
 
 -- it is this, or memory was wanting
-abbrev pub Ends : Status → Status → Type 0
-Ends status wanted = (status ≡ NoMemory) ⊎ (status ≡ wanted)
+abbrev pub EndsWith : Status → Status → Type 0
+EndsWith status wanted = (status ≡ NoMemory) ⊎ (status ≡ wanted)
 
 -- Where nothing keeps a command from its output, the status is `Done` and all of it is written, or memory was wanting.
 pub record IsComplete (words : List (String Global)) (d : Devices) (status : Status) : Type 0 where
@@ -47,15 +47,15 @@ pub record IsComplete (words : List (String Global)) (d : Devices) (status : Sta
 -- Where the input has a fault, it is refused by it, or memory was wanting. So it is with the database file of `run`.
 pub record TellsFault (words : List (String Global)) (d : Devices) (status : Status) : Type 0 where
   pub conversion : (command : Conversion) (input : List ℕ) (fault : InputFault)
-      → HasInput words d command input → length input ≤ input_limit → IsInputFault command input fault → Ends status (Refused fault)
+      → HasInput words d command input → length input ≤ input_limit → IsInputFault command input fault → EndsWith status (Refused fault)
   pub run : (bytes : List ℕ) (fault : DbFault)
-      → HasFile words d bytes → length bytes ≤ input_limit → IsDbFault bytes fault → Ends status (Refused (Database fault))
+      → HasFile words d bytes → length bytes ≤ input_limit → IsDbFault bytes fault → EndsWith status (Refused (Database fault))
 
 -- Where the input is longer than the limit, that is told, or memory was wanting. So it is with the database file of `run`, and
 -- with its script once the database is accepted.
 pub record TellsLength (words : List (String Global)) (d : Devices) (status : Status) : Type 0 where
   pub conversion : (command : Conversion) (input : List ℕ)
-      → HasInput words d command input → input_limit < length input → Ends status TooLong
-  pub database : (bytes : List ℕ) → HasFile words d bytes → input_limit < length bytes → Ends status TooLong
+      → HasInput words d command input → input_limit < length input → EndsWith status TooLong
+  pub database : (bytes : List ℕ) → HasFile words d bytes → input_limit < length bytes → EndsWith status TooLong
   pub script : (db : List Domain) (script : List ℕ)
-      → HasScript words d db script → input_limit < length script → Ends status TooLong
+      → HasScript words d db script → input_limit < length script → EndsWith status TooLong

@@ -7,9 +7,9 @@ use Rattle.rule_tables.specs.FileFaults.{IsDbFault}
 use Rattle.rule_tables.specs.FileFormat.{ReadsAs}
 use Rattle.rule_tables.specs.declared.domain.Domain.{Domain}
 use Rattle.db_text.specs.Printed.{printed, LackTimes, IsFirstTime}
-use Rattle.db_text.specs.TextOf.{TextOf, IsTextFault}
-use Rattle.db_writer.specs.LaidOut.{LaidOut, EndsIn, IsWithin}
-use Rattle.regtool.specs.Lines.{line_of}
+use Rattle.rule_text.specs.TextOf.{TextOf, IsTextFault}
+use Rattle.db_writer.specs.LaidOut.{LaidOut, EndsIn, IsWithinReach}
+use Rattle.reg_base.specs.Texts.{line_of}
 use Rattle.regtool.specs.declared.conversion.Conversion.{Conversion}
 use Rattle.regtool.specs.declared.conversion.Conversion.TheVariants.{Compile, Decompile, Check}
 use Rattle.regtool.specs.declared.conversion.Refusal.{Refusal}
@@ -19,18 +19,18 @@ use Rattle.regtool.specs.declared.status.InputFault.TheVariants.{Text, Database,
 
 -- ---- words
 
-abbrev pub name_of : Conversion → List ℕ
-name_of Compile = codes "compile"
-name_of Decompile = codes "decompile"
-name_of Check = codes "check"
+abbrev pub command_name : Conversion → List ℕ
+command_name Compile = codes "compile"
+command_name Decompile = codes "decompile"
+command_name Check = codes "check"
 
 -- the words are the form of the command: its name alone
-abbrev pub Names : List (String Global) → Conversion → Type 0
-Names words command = map string_bytes words ≡ name_of command ∷ []
+abbrev pub NamesConversion : List (String Global) → Conversion → Type 0
+NamesConversion words command = map string_bytes words ≡ command_name command ∷ []
 
 -- the words are the form of such a command
 abbrev pub IsConversion : List (String Global) → Type 0
-IsConversion words = (command : Conversion) × Names words command
+IsConversion words = (command : Conversion) × NamesConversion words command
 
 -- ---- outputs
 
@@ -55,14 +55,14 @@ count_line ds = line_of (decimal (length ds) ++ (codes " countries, " ++ (decima
 -- ---- what each command does
 
 -- the input stands for the database
-abbrev pub StandsFor : Conversion → List ℕ → List Domain → Type 0
-StandsFor Compile text ds = TextOf text ds
-StandsFor Decompile bytes ds = ReadsAs bytes ds
-StandsFor Check bytes ds = ReadsAs bytes ds
+abbrev pub InputStandsFor : Conversion → List ℕ → List Domain → Type 0
+InputStandsFor Compile text ds = TextOf text ds
+InputStandsFor Decompile bytes ds = ReadsAs bytes ds
+InputStandsFor Check bytes ds = ReadsAs bytes ds
 
 -- the database has an output
 abbrev pub HasOutput : Conversion → List Domain → Type 0
-HasOutput Compile ds = IsWithin ds
+HasOutput Compile ds = IsWithinReach ds
 HasOutput Decompile ds = LackTimes ds
 HasOutput Check ds = ⊤
 
@@ -85,14 +85,14 @@ IsInputFault command input fault = ⊥
 
 -- The input is accepted: it stands for the database, which has an output.
 pub record IsAccepted (command : Conversion) (input : List ℕ) (ds : List Domain) : Type 0 where
-  pub stands_for : StandsFor command input ds
+  pub stands_for : InputStandsFor command input ds
   pub has_output : HasOutput command ds
 
 -- the bytes are what the command writes for the input
-abbrev pub Gives : Conversion → List ℕ → List ℕ → Type 0
-Gives command input bytes = (ds : List Domain) × IsAccepted command input ds × IsOutputOf command ds bytes
+abbrev pub GivesOutput : Conversion → List ℕ → List ℕ → Type 0
+GivesOutput command input bytes = (ds : List Domain) × IsAccepted command input ds × IsOutputOf command ds bytes
 
 -- why the input gave no output
-abbrev pub IsRefusal : Conversion → List ℕ → Refusal → Type 0
-IsRefusal command input (Fault fault) = IsInputFault command input fault
-IsRefusal command input OutOfMemory = Unit {0}
+abbrev pub IsConversionRefusal : Conversion → List ℕ → Refusal → Type 0
+IsConversionRefusal command input (Fault fault) = IsInputFault command input fault
+IsConversionRefusal command input OutOfMemory = Unit {0}

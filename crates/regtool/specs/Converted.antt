@@ -6,25 +6,25 @@ use Rattle.std.specs.declared.string.String.{String}
 use Rattle.reg_base.specs.Appended.{AppendsFront}
 use Rattle.reg_base.specs.Files.{IsLonger}
 use Rattle.rule_tables.specs.declared.domain.Domain.{Domain}
-use Rattle.regtool.specs.Conversions.{Names, IsAccepted, IsOutputOf, Gives, IsInputFault}
-use Rattle.regtool.specs.Devices.{Device, Devices, HasFault, IsRead, IsUntouched, input_limit}
+use Rattle.regtool.specs.Conversions.{NamesConversion, IsAccepted, IsOutputOf, GivesOutput, IsInputFault}
+use Rattle.regtool.specs.Devices.{StreamAround, Devices, HasFault, IsRead, IsUntouched, input_limit}
 use Rattle.regtool.specs.declared.conversion.Conversion.{Conversion}
 use Rattle.regtool.specs.declared.status.Status.{Status}
 use Rattle.regtool.specs.declared.status.Status.TheVariants.{Done, Usage, Refused, ReadFault, WriteFault, NoMemory, TooLong}
 
 -- What such a command ends with.
-abbrev pub IsConverted : Conversion → Device → Device → Status → Type 0
-IsConverted command input output Done = IsRead input (λ given. (bytes : List ℕ) × Gives command given bytes × Appends output.before output.after bytes)
+abbrev pub IsConverted : Conversion → StreamAround → StreamAround → Status → Type 0
+IsConverted command input output Done = IsRead input (λ given. (bytes : List ℕ) × GivesOutput command given bytes × Appends output.before output.after bytes)
 IsConverted command input output Usage = ⊥
 IsConverted command input output (Refused fault) = IsRead input (λ given. IsInputFault command given fault) × IsUntouched output
 IsConverted command input output ReadFault = HasFault input × IsUntouched output
-IsConverted command input output WriteFault = HasFault output × IsRead input (λ given. (bytes : List ℕ) × Gives command given bytes × AppendsFront output.before output.after bytes)
+IsConverted command input output WriteFault = HasFault output × IsRead input (λ given. (bytes : List ℕ) × GivesOutput command given bytes × AppendsFront output.before output.after bytes)
 IsConverted command input output NoMemory = IsUntouched output
 IsConverted command input output TooLong = IsLonger input_limit input.before × IsUntouched output
 
 -- The command read an input that was told: the words are its form, the input was told to be this, and no read failed.
 pub record HasInput (words : List (String Global)) (d : Devices) (command : Conversion) (input : List ℕ) : Type 0 where
-  pub form : Names words command
+  pub form : NamesConversion words command
   pub told : d.input.before ≡ Some input
   pub reads : HasFault d.input → ⊥
 

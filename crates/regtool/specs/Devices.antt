@@ -13,64 +13,64 @@ input_limit = 16777216
 
 -- A source or a sink round a call: the bytes that a source has left or a sink holds, where it tells them, and its count of
 -- faults.
-pub record Device : Type 0 where
+pub record StreamAround : Type 0 where
   pub before : Option (List ℕ)
   pub after : Option (List ℕ)
   pub faults_before : ℕ
   pub faults_after : ℕ
 
-abbrev pub around : Option (List ℕ) → Option (List ℕ) → ℕ → ℕ → Device
+abbrev pub around : Option (List ℕ) → Option (List ℕ) → ℕ → ℕ → StreamAround
 around before after faults_before faults_after = record { before = before; after = after; faults_before = faults_before; faults_after = faults_after }
 
 -- Files round a call: what the file of a name holds, where that is told, and their count of faults.
-pub record Store : Type 0 where
+pub record FilesAround : Type 0 where
   pub before : List ℕ → Option (List ℕ)
   pub after : List ℕ → Option (List ℕ)
   pub faults_before : ℕ
   pub faults_after : ℕ
 
-abbrev pub stored : (List ℕ → Option (List ℕ)) → (List ℕ → Option (List ℕ)) → ℕ → ℕ → Store
+abbrev pub stored : (List ℕ → Option (List ℕ)) → (List ℕ → Option (List ℕ)) → ℕ → ℕ → FilesAround
 stored before after faults_before faults_after = record { before = before; after = after; faults_before = faults_before; faults_after = faults_after }
 
 -- the drivers round a call, as they are seen
-pub record Row : Type 0 where
+pub record DriversAround : Type 0 where
   pub before : List (Option Seen)
   pub after : List (Option Seen)
 
-abbrev pub driven : List (Option Seen) → List (Option Seen) → Row
+abbrev pub driven : List (Option Seen) → List (Option Seen) → DriversAround
 driven before after = record { before = before; after = after }
 
 -- all that is lent
 pub record Devices : Type 0 where
-  pub files : Store
-  pub input : Device
-  pub output : Device
-  pub drivers : Row
+  pub files : FilesAround
+  pub input : StreamAround
+  pub output : StreamAround
+  pub drivers : DriversAround
 
-abbrev pub devices : Store → Device → Device → Row → Devices
+abbrev pub devices : FilesAround → StreamAround → StreamAround → DriversAround → Devices
 devices files input output drivers = record { files = files; input = input; output = output; drivers = drivers }
 
 -- ---- what was done to it
 
 -- the call did nothing to it
-pub record IsUntouched (d : Device) : Type 0 where
+pub record IsUntouched (d : StreamAround) : Type 0 where
   pub bytes : d.after ≡ d.before
   pub faults : d.faults_after ≡ d.faults_before
 
 -- the call read no file
-pub record IsUnread (files : Store) : Type 0 where
+pub record IsUnread (files : FilesAround) : Type 0 where
   pub bytes : files.after ≡ files.before
   pub faults : files.faults_after ≡ files.faults_before
 
 -- the call told the drivers nothing
-abbrev pub AreLeft : Row → Type 0
+abbrev pub AreLeft : DriversAround → Type 0
 AreLeft drivers = drivers.after ≡ drivers.before
 
 -- a fault came in the call
-abbrev pub HasFault : Device → Type 0
+abbrev pub HasFault : StreamAround → Type 0
 HasFault d = Rose d.faults_before d.faults_after
 
-abbrev pub HasFileFault : Store → Type 0
+abbrev pub HasFileFault : FilesAround → Type 0
 HasFileFault files = Rose files.faults_before files.faults_after
 
 -- ---- what was read
@@ -83,6 +83,6 @@ pub record AreGood (there : Option (List ℕ)) (P : List ℕ → Type 0) : Type 
   pub holds : P given
 
 -- The input was read to its end, and that holds of its bytes.
-pub record IsRead (input : Device) (P : List ℕ → Type 0) : Type 0 where
+pub record IsRead (input : StreamAround) (P : List ℕ → Type 0) : Type 0 where
   pub at_end : IsAtEnd input.after
   pub good : AreGood input.before P

@@ -5,9 +5,9 @@ use Rattle.rule_tables.specs.declared.domain.Domain.{Domain}
 use Rattle.radio_drv.specs.Seen.{Seen}
 use Rattle.reg_journal.specs.Facts.{Journal}
 use Rattle.reg_journal.specs.OnAir.{told_of}
-use Rattle.reg_core.specs.Heard.{AreDriven, Follows, driver_at}
+use Rattle.reg_core.specs.DriverRows.{AreDriven, Follows, driver_at}
 use Rattle.reg_core.specs.Kept.{StandsFor}
-use Rattle.reg_core.specs.declared.core_parts.Core.{Core}
+use Rattle.reg_core.specs.declared.core_state.Core.{Core}
 
 -- the driver has nothing on air, and no check was told to it
 abbrev pub IsIdle : Seen → Type 0

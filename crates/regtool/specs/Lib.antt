@@ -1,4 +1,3 @@
-pub mod Lines
 pub mod Status
 pub mod Devices
 pub mod Conversions
@@ -6,5 +5,5 @@ pub mod Converted
 pub mod Output
 pub mod Driven
 pub mod Run
-pub mod Turns
 pub mod Answer
+pub mod inner

@@ -8,11 +8,11 @@ use Rattle.reg_journal.specs.declared.reply.Answer.TheVariants.{Refused}
 use Rattle.reg_journal.specs.declared.reply.Reply.{Reply}
 use Rattle.reg_journal.specs.declared.reply.Reply.TheVariants.{Plain}
 use Rattle.reg_journal.specs.declared.request.Request.{Request}
-use Rattle.reg_core.specs.Heard.{driven_radio}
+use Rattle.reg_core.specs.DriverRows.{driven_radio}
 use Rattle.reg_core.specs.Stepping.{IsBuilt, is_failed}
 use Rattle.iw_commands.specs.Lines.{Says}
 use Rattle.iw_commands.specs.Printed.{IsTextOf, line_fault_text}
-use Rattle.iw_commands.specs.Scripts.{lines_of}
+use Rattle.iw_commands.specs.Scripts.{script_lines}
 use Rattle.iw_commands.specs.declared.fault.LineFault.{LineFault}
 
 -- ---- a request
@@ -53,7 +53,7 @@ LinesGive db J (line ∷ lines) text failed last =
 
 -- What the script gives from the empty journal on.
 abbrev pub ScriptGives : List Domain → List ℕ → List ℕ → List ℕ → Journal → Type 0
-ScriptGives db script text failed last = LinesGive db [] (lines_of script) text failed last
+ScriptGives db script text failed last = LinesGive db [] (script_lines script) text failed last
 
 -- The output of the script, with no driver failing.
 abbrev pub IsOutput : List Domain → List ℕ → List ℕ → Type 0

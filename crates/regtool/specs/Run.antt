@@ -10,8 +10,8 @@ use Rattle.rule_tables.specs.FileFormat.{ReadsAs}
 use Rattle.rule_tables.specs.declared.domain.Domain.{Domain}
 use Rattle.rule_tables.specs.declared.file_fault.DbFault.{DbFault}
 use Rattle.reg_journal.specs.Facts.{Journal}
-use Rattle.iw_commands.specs.Scripts.{lines_of}
-use Rattle.regtool.specs.Devices.{AreGood, AreLeft, Device, Devices, HasFault, HasFileFault, IsRead, IsUntouched, Row, input_limit}
+use Rattle.iw_commands.specs.Scripts.{script_lines}
+use Rattle.regtool.specs.Devices.{AreGood, AreLeft, StreamAround, Devices, HasFault, HasFileFault, IsRead, IsUntouched, DriversAround, input_limit}
 use Rattle.regtool.specs.Driven.{AreSteady, Follow}
 use Rattle.regtool.specs.Output.{IsOutput, LineGives, LinesGive, ScriptGives}
 use Rattle.regtool.specs.declared.status.InputFault.TheVariants.{Database}
@@ -25,7 +25,7 @@ NamesRun words name = map string_bytes words ≡ codes "run" ∷ name ∷ []
 -- ---- how far a script came
 
 -- all lines were answered, and all that they give was written
-pub record IsAnswered (db : List Domain) (script : List ℕ) (output : Device) (drivers : Row) : Type 0 where
+pub record IsAnswered (db : List Domain) (script : List ℕ) (output : StreamAround) (drivers : DriversAround) : Type 0 where
   pub text : List ℕ
   pub failed : List ℕ
   pub last : Journal
@@ -36,11 +36,11 @@ pub record IsAnswered (db : List Domain) (script : List ℕ) (output : Device) (
 -- The lines that stand first were answered, and what they give is this.
 pub record IsFront (db : List Domain) (script : List ℕ) (left : List (List ℕ)) (text failed : List ℕ) (J : Journal) : Type 0 where
   pub first : List (List ℕ)
-  pub parts : lines_of script ≡ first ++ left
+  pub parts : script_lines script ≡ first ++ left
   pub gives : LinesGive db [] first text failed J
 
 -- What the lines before one give was written, and some front of what that one gives. The drivers were told of it.
-pub record StopsWithin (db : List Domain) (script : List ℕ) (output : Device) (drivers : Row) : Type 0 where
+pub record StopsWithin (db : List Domain) (script : List ℕ) (output : StreamAround) (drivers : DriversAround) : Type 0 where
   pub line : List ℕ
   pub rest : List (List ℕ)
   pub text : List ℕ
@@ -57,14 +57,14 @@ pub record StopsWithin (db : List Domain) (script : List ℕ) (output : Device) 
   pub follow : Follow next (failed ++ failed_here) drivers.before drivers.after
 
 -- the drivers were told of the next line, whose answer wasn't written
-abbrev pub IsOneAhead : List Domain → Journal → List (List ℕ) → List ℕ → Row → Type 0
+abbrev pub IsOneAhead : List Domain → Journal → List (List ℕ) → List ℕ → DriversAround → Type 0
 IsOneAhead db J [] failed drivers = ⊥
 IsOneAhead db J (line ∷ rest) failed drivers =
     (answer : List ℕ) × (failed_here : List ℕ) × (next : Journal) × LineGives db J line answer failed_here next
     × Follow next (failed ++ failed_here) drivers.before drivers.after
 
 -- What the lines that stand first give was written, and nothing of the next one.
-pub record StopsBetween (db : List Domain) (script : List ℕ) (output : Device) (drivers : Row) : Type 0 where
+pub record StopsBetween (db : List Domain) (script : List ℕ) (output : StreamAround) (drivers : DriversAround) : Type 0 where
   pub left : List (List ℕ)
   pub text : List ℕ
   pub failed : List ℕ
@@ -74,7 +74,7 @@ pub record StopsBetween (db : List Domain) (script : List ℕ) (output : Device)
   pub follow : Follow journal failed drivers.before drivers.after ⊎ IsOneAhead db journal left failed drivers
 
 -- what the answering of a script ends with
-abbrev pub IsAnswering : List Domain → List ℕ → Device → Row → Status → Type 0
+abbrev pub IsAnswering : List Domain → List ℕ → StreamAround → DriversAround → Status → Type 0
 IsAnswering db script output drivers Done = IsAnswered db script output drivers
 IsAnswering db script output drivers WriteFault = HasFault output × StopsWithin db script output drivers
 IsAnswering db script output drivers NoMemory = StopsBetween db script output drivers
@@ -108,14 +108,14 @@ EndsAtFile d name status =
     IsNoDatabase (d.files.before name) d.files.faults_before d.files.faults_after status × IsUntouched d.input × IsSilent d
 
 -- What `run` ends with, over the database file of that name.
-abbrev pub IsRun : Devices → List ℕ → Status → Type 0
-IsRun d name Done = HasInputs d name (λ db script. IsAnswering db script d.output d.drivers Done)
-IsRun d name Usage = ⊥
-IsRun d name (Refused fault) = EndsAtFile d name (Refused fault)
-IsRun d name ReadFault = EndsAtFile d name ReadFault ⊎ (HasDatabase d name (λ db. HasFault d.input) × IsSilent d)
-IsRun d name WriteFault = HasInputs d name (λ db script. IsAnswering db script d.output d.drivers WriteFault)
-IsRun d name NoMemory = IsSilent d ⊎ HasInputs d name (λ db script. IsAnswering db script d.output d.drivers NoMemory)
-IsRun d name TooLong = EndsAtFile d name TooLong ⊎ (HasDatabase d name (λ db. IsLonger input_limit d.input.before) × IsSilent d)
+abbrev pub IsRunStatus : Devices → List ℕ → Status → Type 0
+IsRunStatus d name Done = HasInputs d name (λ db script. IsAnswering db script d.output d.drivers Done)
+IsRunStatus d name Usage = ⊥
+IsRunStatus d name (Refused fault) = EndsAtFile d name (Refused fault)
+IsRunStatus d name ReadFault = EndsAtFile d name ReadFault ⊎ (HasDatabase d name (λ db. HasFault d.input) × IsSilent d)
+IsRunStatus d name WriteFault = HasInputs d name (λ db script. IsAnswering db script d.output d.drivers WriteFault)
+IsRunStatus d name NoMemory = IsSilent d ⊎ HasInputs d name (λ db script. IsAnswering db script d.output d.drivers NoMemory)
+IsRunStatus d name TooLong = EndsAtFile d name TooLong ⊎ (HasDatabase d name (λ db. IsLonger input_limit d.input.before) × IsSilent d)
 
 -- ---- what comes of what is told
 

@@ -3,14 +3,15 @@
 ghost use Rattle.std.specs.Prelude.{◌≡◌, ◌↔◌, ◌*◌, ◌≤◌, [], ◌∷◌, All, IfErr, IfOk, IsTrue, MatchOption, length, map, string_bytes};
 ghost use Rattle.rule_tables.specs.Databases.{IsDb};
 ghost use Rattle.rule_tables.specs.FileFormat.{ReadsAs};
-ghost use Rattle.regtool.specs.Conversions.{Gives, IsConversion, IsRefusal, Names, count_line, rule_count};
+ghost use Rattle.regtool.specs.Conversions.{GivesOutput, IsConversion, IsConversionRefusal, NamesConversion, count_line, rule_count};
 
 use crate::line::line_of;
 use crate::status::InputFault;
 use db_reader::{ReadFault, read_db};
 use db_text::{ParseFault, PrintFault, parse, print};
 use db_writer::{WriteFault, layout};
-use reg_base::{Bytes, OutOfMemory};
+use reg_base::Bytes;
+use reg_lists::OutOfMemory;
 use rule_tables::{Db, Domain};
 use std::alloc::Global;
 
@@ -36,7 +37,7 @@ pub enum Refusal {
 }
 
 /// Whether the words are this one alone.
-fn are_only(words: &[String], name: &str) -> bool
+pub fn are_only(words: &[String], name: &str) -> bool
     ensures { IsTrue result ↔ (map string_bytes words.now ≡ name.now ∷ []) }
 {
     match words {
@@ -48,7 +49,7 @@ fn are_only(words: &[String], name: &str) -> bool
 impl Conversion {
     /// The command whose form the words are, or `None` where they are the form of none.
     pub fn named(words: &[String]) -> Option<Conversion>
-        ensures { MatchOption result (IsConversion words.now → ⊥) (Names words.now) }
+        ensures { MatchOption result (IsConversion words.now → ⊥) (NamesConversion words.now) }
     {
         if are_only(words, "compile") {
             Some(Conversion::Compile)
@@ -64,8 +65,8 @@ impl Conversion {
     /// What the command writes for the input, or why the input isn't accepted; `OutOfMemory` comes
     /// where no memory was found.
     pub fn output_for(self, alloc: Global, input: &[u8]) -> Result<Bytes, Refusal>
-        ensures output { IfOk result (Gives self input.now) }
-        ensures cause { IfErr result (IsRefusal self input.now) }
+        ensures output { IfOk result (GivesOutput self input.now) }
+        ensures cause { IfErr result (IsConversionRefusal self input.now) }
     {
         match self {
             Conversion::Compile => compiled(alloc, input),
@@ -77,8 +78,8 @@ impl Conversion {
 
 /// The file of the database that the text stands for.
 fn compiled(alloc: Global, text: &[u8]) -> Result<Bytes, Refusal>
-    ensures output { IfOk result (Gives Conversion.Compile text.now) }
-    ensures cause { IfErr result (IsRefusal Conversion.Compile text.now) }
+    ensures output { IfOk result (GivesOutput Conversion.Compile text.now) }
+    ensures cause { IfErr result (IsConversionRefusal Conversion.Compile text.now) }
 {
     let db = match parse(alloc, text) {
         Ok(db) => db,
@@ -95,8 +96,8 @@ fn compiled(alloc: Global, text: &[u8]) -> Result<Bytes, Refusal>
 /// The database that the bytes say.
 fn database_in(alloc: Global, bytes: &[u8]) -> Result<Db, Refusal>
     ensures database { IfOk result (ReadsAs bytes.now) }
-    ensures decompile { IfErr result (IsRefusal Conversion.Decompile bytes.now) }
-    ensures check { IfErr result (IsRefusal Conversion.Check bytes.now) }
+    ensures decompile { IfErr result (IsConversionRefusal Conversion.Decompile bytes.now) }
+    ensures check { IfErr result (IsConversionRefusal Conversion.Check bytes.now) }
 {
     match read_db(alloc, bytes) {
         Ok(db) => Ok(db),
@@ -107,8 +108,8 @@ fn database_in(alloc: Global, bytes: &[u8]) -> Result<Db, Refusal>
 
 /// The text of the database that the bytes say.
 fn decompiled(alloc: Global, bytes: &[u8]) -> Result<Bytes, Refusal>
-    ensures output { IfOk result (Gives Conversion.Decompile bytes.now) }
-    ensures cause { IfErr result (IsRefusal Conversion.Decompile bytes.now) }
+    ensures output { IfOk result (GivesOutput Conversion.Decompile bytes.now) }
+    ensures cause { IfErr result (IsConversionRefusal Conversion.Decompile bytes.now) }
 {
     let db = database_in(alloc, bytes)?;
     match print(alloc, &db) {
@@ -122,8 +123,8 @@ fn decompiled(alloc: Global, bytes: &[u8]) -> Result<Bytes, Refusal>
 
 /// The line that tells how many countries and rules the database has that the bytes say.
 fn counted(alloc: Global, bytes: &[u8]) -> Result<Bytes, Refusal>
-    ensures output { IfOk result (Gives Conversion.Check bytes.now) }
-    ensures cause { IfErr result (IsRefusal Conversion.Check bytes.now) }
+    ensures output { IfOk result (GivesOutput Conversion.Check bytes.now) }
+    ensures cause { IfErr result (IsConversionRefusal Conversion.Check bytes.now) }
 {
     let db = database_in(alloc, bytes)?;
     match count_line(alloc, db.as_slice()) {

@@ -1,9 +1,10 @@
 //! Lines of text that the program writes.
 
 ghost use Rattle.std.specs.Prelude.{◌≡◌, IfOk};
-ghost use Rattle.regtool.specs.Lines.{line_of};
+ghost use Rattle.reg_base.specs.Texts.{line_of};
 
-use reg_base::{Bytes, OutOfMemory};
+use reg_base::Bytes;
+use reg_lists::OutOfMemory;
 use std::alloc::Global;
 
 /// The text and a newline.

@@ -1,18 +1,16 @@
 //! The command `run`: answers a script over a database.
 
-ghost use Rattle.std.specs.Prelude.{◌≡◌, ◌≤◌, List, ℕ, MatchOption, MatchResult, map};
-ghost use Rattle.std.specs.Option.{option_map};
-ghost use Rattle.radio_drv.specs.Seen.{seen};
+ghost use Rattle.std.specs.Prelude.{◌≡◌, ◌≤◌, List, ℕ, MatchOption, MatchResult};
 ghost use Rattle.rule_tables.specs.FileFormat.{ReadsAs};
 ghost use Rattle.regtool.specs.Devices.{AreGood, around, devices, driven, stored};
 ghost use Rattle.regtool.specs.Driven.{AreIdle};
-ghost use Rattle.regtool.specs.Run.{IsNoDatabase, IsRun, NamesRun};
+ghost use Rattle.regtool.specs.Run.{IsNoDatabase, IsRunStatus, NamesRun};
 
 use crate::script_run::answer_lines;
 use crate::status::{InputFault, Status};
 use db_reader::{ReadFault, read_db};
 use reg_base::{FileFault, Files, Sink, Source, read_to_end};
-use reg_core::{Core, Drivers};
+use reg_core::{Core, DriverRow};
 use rule_tables::Db;
 use std::alloc::Global;
 
@@ -34,24 +32,23 @@ pub fn database_named(words: &[String]) -> Option<&str>
 
 /// Reads the database file of that name and then the whole script, and answers the script line by line.
 /// The first thing that fails gives the status, in the order file, database, script, answers.
-pub fn run<F: Files, S: Source, K: Sink>(
+pub fn run<F: Files, S: Source, K: Sink, D: DriverRow>(
     alloc: Global,
     name: &str,
     files: &mut F,
     input: &mut S,
     out: &mut K,
-    drivers: &mut Drivers,
+    drivers: &mut D,
 ) -> Status
-    requires idle { AreIdle 8 (map (λ o. option_map (λ b. seen (on_air b) (told b) ((Driver-box b).count b.value) (steady b)) o) drivers.old.items) }
+    requires idle { AreIdle 8 (D.seen drivers.old) }
     ensures file_faults { F.count files.old ≤ F.count files.new }
     ensures input_faults { S.count input.old ≤ S.count input.new }
     ensures output_faults { K.count out.old ≤ K.count out.new }
-    ensures run { IsRun (devices
+    ensures run { IsRunStatus (devices
         (stored (F.holds files.old) (F.holds files.new) (F.count files.old) (F.count files.new))
         (around (S.left input.old) (S.left input.new) (S.count input.old) (S.count input.new))
         (around (K.held out.old) (K.held out.new) (K.count out.old) (K.count out.new))
-        (driven (map (λ o. option_map (λ b. seen (on_air b) (told b) ((Driver-box b).count b.value) (steady b)) o) drivers.old.items)
-        (map (λ o. option_map (λ b. seen (on_air b) (told b) ((Driver-box b).count b.value) (steady b)) o) drivers.new.items))) name.now result }
+        (driven (D.seen drivers.old) (D.seen drivers.new))) name.now result }
 {
     let db = match read_database(alloc, name, files) {
         Ok(db) => db,

@@ -1,9 +1,7 @@
 //! Answers the lines of a script.
 
-ghost use Rattle.std.specs.Prelude.{◌≡◌, [], ◌⊎◌, ◌≤◌, ℕ, List, OnErr, OnOk, map};
-ghost use Rattle.std.specs.Option.{option_map};
+ghost use Rattle.std.specs.Prelude.{◌≡◌, [], ◌⊎◌, ◌≤◌, ℕ, List, OnErr, OnOk};
 ghost use Rattle.rule_tables.specs.declared.domain.Domain.{Domain};
-ghost use Rattle.radio_drv.specs.Seen.{seen};
 ghost use Rattle.reg_base.specs.Appended.{AppendsAtMost};
 ghost use Rattle.reg_base.specs.Causes.{HasCause};
 ghost use Rattle.reg_core.specs.Kept.{StandsFor};
@@ -12,29 +10,29 @@ ghost use Rattle.reg_journal.specs.Facts.{Journal};
 ghost use Rattle.regtool.specs.Devices.{around, driven};
 ghost use Rattle.regtool.specs.Driven.{AreIdle, IsAt};
 ghost use Rattle.regtool.specs.Run.{IsAnswering};
-ghost use Rattle.regtool.specs.Turns.{IsTurn};
+ghost use Rattle.regtool.specs.inner.Turns.{IsTurn};
 
 use crate::status::Status;
 use iw_commands::{Lines, put_fault, put_reply, read_line};
-use reg_base::{Bytes, Failed, OutOfMemory, Sink};
-use reg_core::{Core, Drivers};
+use reg_base::{Bytes, Failed, Sink};
+use reg_core::{Core, DriverRow};
+use reg_lists::OutOfMemory;
 use std::alloc::Global;
 
 /// Answers each line of the script in turn, and writes each answer at once: `Done`, `WriteFault` or
 /// `NoMemory`.
-pub fn answer_lines<K: Sink>(
+pub fn answer_lines<K: Sink, D: DriverRow>(
     alloc: Global,
     core: &mut Core,
     script: &[u8],
     out: &mut K,
-    drivers: &mut Drivers,
+    drivers: &mut D,
 ) -> Status
-    requires ready { IsReady core.old (map (λ o. option_map (λ b. seen (on_air b) (told b) ((Driver-box b).count b.value) (steady b)) o) drivers.old.items) }
-    requires idle { AreIdle 8 (map (λ o. option_map (λ b. seen (on_air b) (told b) ((Driver-box b).count b.value) (steady b)) o) drivers.old.items) }
+    requires ready { IsReady core.old (D.seen drivers.old) }
+    requires idle { AreIdle 8 (D.seen drivers.old) }
     ensures answering { (db : List Domain) → StandsFor db core.old [] → IsAnswering db script.now
         (around (K.held out.old) (K.held out.new) (K.count out.old) (K.count out.new))
-        (driven (map (λ o. option_map (λ b. seen (on_air b) (told b) ((Driver-box b).count b.value) (steady b)) o) drivers.old.items)
-        (map (λ o. option_map (λ b. seen (on_air b) (told b) ((Driver-box b).count b.value) (steady b)) o) drivers.new.items)) result }
+        (driven (D.seen drivers.old) (D.seen drivers.new)) result }
     ensures output_faults { K.count out.old ≤ K.count out.new }
 {
     let mut lines = Lines::new(script);
@@ -52,26 +50,24 @@ pub fn answer_lines<K: Sink>(
 
 /// Answers a line. Its answer is then all that the buffer holds. After `OutOfMemory` the core and the
 /// drivers are as before or went on to the next journal.
-fn answer_line(
+fn answer_line<D: DriverRow>(
     core: &mut Core,
     line: &[u8],
     text: &mut Bytes,
-    drivers: &mut Drivers,
+    drivers: &mut D,
 ) -> Result<(), OutOfMemory>
-    requires ready { IsReady core.old (map (λ o. option_map (λ b. seen (on_air b) (told b) (count b) (steady b)) o) drivers.old.items) }
+    requires ready { IsReady core.old (D.seen drivers.old) }
     ensures answered { OnOk result ((db : List Domain) (J : Journal)
-        → IsAt db J core.old (map (λ o. option_map (λ b. seen (on_air b) (told b) (count b) (steady b)) o) drivers.old.items)
+        → IsAt db J core.old (D.seen drivers.old)
         → IsTurn db J line.now text.new core.new
-        (map (λ o. option_map (λ b. seen (on_air b) (told b) (count b) (steady b)) o) drivers.old.items)
-        (map (λ o. option_map (λ b. seen (on_air b) (told b) (count b) (steady b)) o) drivers.new.items)) }
+        (D.seen drivers.old) (D.seen drivers.new)) }
     ensures stopped { OnErr result ((db : List Domain) (J : Journal)
-        → IsAt db J core.old (map (λ o. option_map (λ b. seen (on_air b) (told b) (count b) (steady b)) o) drivers.old.items)
-        → (map (λ o. option_map (λ b. seen (on_air b) (told b) (count b) (steady b)) o) drivers.new.items
-        ≡ map (λ o. option_map (λ b. seen (on_air b) (told b) (count b) (steady b)) o) drivers.old.items)
+        → IsAt db J core.old (D.seen drivers.old)
+        → (D.seen drivers.new
+        ≡ D.seen drivers.old)
         ⊎ ((answer : List ℕ) × IsTurn db J line.now answer core.new
-        (map (λ o. option_map (λ b. seen (on_air b) (told b) (count b) (steady b)) o) drivers.old.items)
-        (map (λ o. option_map (λ b. seen (on_air b) (told b) (count b) (steady b)) o) drivers.new.items))) }
-    ensures ready { IsReady core.new (map (λ o. option_map (λ b. seen (on_air b) (told b) (count b) (steady b)) o) drivers.new.items) }
+        (D.seen drivers.old) (D.seen drivers.new))) }
+    ensures ready { IsReady core.new (D.seen drivers.new) }
 {
     text.clear();
     match read_line(line) {

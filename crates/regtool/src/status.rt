@@ -1,12 +1,13 @@
 //! What a call of the program ends with.
 
 ghost use Rattle.std.specs.Prelude.{◌≡◌, IfOk};
-ghost use Rattle.regtool.specs.Lines.{line_of};
-ghost use Rattle.regtool.specs.Status.{check_time_text, database_fault_name, fault_text, kind_name, number_of, text_of};
+ghost use Rattle.reg_base.specs.Texts.{line_of};
+ghost use Rattle.regtool.specs.Status.{check_time_text, database_fault_name, fault_text, kind_name, status_number, text_of};
 
 use crate::line::line_of;
 use db_text::{TextFault, TextKind};
-use reg_base::{Bytes, OutOfMemory};
+use reg_base::Bytes;
+use reg_lists::OutOfMemory;
 use rule_tables::{Alpha2, DbFault};
 use std::alloc::Global;
 
@@ -47,7 +48,7 @@ pub enum Status {
 impl Status {
     /// The status that the process ends with.
     pub fn number(&self) -> u8
-        ensures { result ≡ number_of self.now }
+        ensures { result ≡ status_number self.now }
     {
         match self {
             Status::Done => 0,

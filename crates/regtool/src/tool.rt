@@ -1,9 +1,7 @@
 //! The program as a function of its words and of what it is lent.
 
-ghost use Rattle.std.specs.Prelude.{◌≤◌, map};
-ghost use Rattle.std.specs.Option.{option_map};
-ghost use Rattle.radio_drv.specs.Seen.{seen};
-ghost use Rattle.regtool.specs.Answer.{IsAnswer, IsComplete, TellsFault, TellsLength};
+ghost use Rattle.std.specs.Prelude.{◌≤◌};
+ghost use Rattle.regtool.specs.Answer.{IsStatusOf, IsComplete, TellsFault, TellsLength};
 ghost use Rattle.regtool.specs.Converted.{IsConverted};
 ghost use Rattle.regtool.specs.Devices.{around, devices, driven, stored};
 ghost use Rattle.regtool.specs.Driven.{AreIdle};
@@ -15,7 +13,7 @@ use crate::conversion::{Conversion, Refusal};
 use crate::run::{database_named, run};
 use crate::status::Status;
 use reg_base::{FileFault, Files, Sink, Source, read_to_end};
-use reg_core::Drivers;
+use reg_core::DriverRow;
 use std::alloc::Global;
 
 /// How many bytes a rule text or a database may have.
@@ -27,43 +25,39 @@ const INPUT_LIMIT: usize = 16_777_216;
 /// database file DB and a script, and writes the replies to the script's lines; other words are
 /// `Usage`. The first thing that fails gives the status, in the order words, file, its database, input,
 /// the input's fault, writing.
-pub fn regtool<F: Files, S: Source, K: Sink>(
+pub fn regtool<F: Files, S: Source, K: Sink, D: DriverRow>(
     alloc: Global,
     words: &[String],
     files: &mut F,
     input: &mut S,
     out: &mut K,
-    drivers: &mut Drivers,
+    drivers: &mut D,
 ) -> Status
-    requires idle { AreIdle 8 (map (λ o. option_map (λ b. seen (on_air b) (told b) ((Driver-box b).count b.value) (steady b)) o) drivers.old.items) }
+    requires idle { AreIdle 8 (D.seen drivers.old) }
     // What each status says of what was read and written, and told to the drivers.
-    ensures answer { IsAnswer words.now (devices
+    ensures answer { IsStatusOf words.now (devices
         (stored (F.holds files.old) (F.holds files.new) (F.count files.old) (F.count files.new))
         (around (S.left input.old) (S.left input.new) (S.count input.old) (S.count input.new))
         (around (K.held out.old) (K.held out.new) (K.count out.old) (K.count out.new))
-        (driven (map (λ o. option_map (λ b. seen (on_air b) (told b) ((Driver-box b).count b.value) (steady b)) o) drivers.old.items)
-        (map (λ o. option_map (λ b. seen (on_air b) (told b) ((Driver-box b).count b.value) (steady b)) o) drivers.new.items))) result }
+        (driven (D.seen drivers.old) (D.seen drivers.new))) result }
     // That what is accepted gives its output.
     ensures complete { IsComplete words.now (devices
         (stored (F.holds files.old) (F.holds files.new) (F.count files.old) (F.count files.new))
         (around (S.left input.old) (S.left input.new) (S.count input.old) (S.count input.new))
         (around (K.held out.old) (K.held out.new) (K.count out.old) (K.count out.new))
-        (driven (map (λ o. option_map (λ b. seen (on_air b) (told b) ((Driver-box b).count b.value) (steady b)) o) drivers.old.items)
-        (map (λ o. option_map (λ b. seen (on_air b) (told b) ((Driver-box b).count b.value) (steady b)) o) drivers.new.items))) result }
+        (driven (D.seen drivers.old) (D.seen drivers.new))) result }
     // That what has a fault is refused by that fault.
     ensures fault { TellsFault words.now (devices
         (stored (F.holds files.old) (F.holds files.new) (F.count files.old) (F.count files.new))
         (around (S.left input.old) (S.left input.new) (S.count input.old) (S.count input.new))
         (around (K.held out.old) (K.held out.new) (K.count out.old) (K.count out.new))
-        (driven (map (λ o. option_map (λ b. seen (on_air b) (told b) ((Driver-box b).count b.value) (steady b)) o) drivers.old.items)
-        (map (λ o. option_map (λ b. seen (on_air b) (told b) ((Driver-box b).count b.value) (steady b)) o) drivers.new.items))) result }
+        (driven (D.seen drivers.old) (D.seen drivers.new))) result }
     // That what is above the limit is too long.
     ensures length { TellsLength words.now (devices
         (stored (F.holds files.old) (F.holds files.new) (F.count files.old) (F.count files.new))
         (around (S.left input.old) (S.left input.new) (S.count input.old) (S.count input.new))
         (around (K.held out.old) (K.held out.new) (K.count out.old) (K.count out.new))
-        (driven (map (λ o. option_map (λ b. seen (on_air b) (told b) ((Driver-box b).count b.value) (steady b)) o) drivers.old.items)
-        (map (λ o. option_map (λ b. seen (on_air b) (told b) ((Driver-box b).count b.value) (steady b)) o) drivers.new.items))) result }
+        (driven (D.seen drivers.old) (D.seen drivers.new))) result }
     ensures file_faults { F.count files.old ≤ F.count files.new }
     ensures input_faults { S.count input.old ≤ S.count input.new }
     ensures output_faults { K.count out.old ≤ K.count out.new }
@@ -72,24 +66,23 @@ pub fn regtool<F: Files, S: Source, K: Sink>(
 }
 
 /// Does what the words say.
-fn dispatch<F: Files, S: Source, K: Sink>(
+fn dispatch<F: Files, S: Source, K: Sink, D: DriverRow>(
     alloc: Global,
     words: &[String],
     files: &mut F,
     input: &mut S,
     out: &mut K,
-    drivers: &mut Drivers,
+    drivers: &mut D,
 ) -> Status
-    requires idle { AreIdle 8 (map (λ o. option_map (λ b. seen (on_air b) (told b) ((Driver-box b).count b.value) (steady b)) o) drivers.old.items) }
+    requires idle { AreIdle 8 (D.seen drivers.old) }
     ensures file_faults { F.count files.old ≤ F.count files.new }
     ensures input_faults { S.count input.old ≤ S.count input.new }
     ensures output_faults { K.count out.old ≤ K.count out.new }
-    ensures answer { IsAnswer words.now (devices
+    ensures answer { IsStatusOf words.now (devices
         (stored (F.holds files.old) (F.holds files.new) (F.count files.old) (F.count files.new))
         (around (S.left input.old) (S.left input.new) (S.count input.old) (S.count input.new))
         (around (K.held out.old) (K.held out.new) (K.count out.old) (K.count out.new))
-        (driven (map (λ o. option_map (λ b. seen (on_air b) (told b) ((Driver-box b).count b.value) (steady b)) o) drivers.old.items)
-        (map (λ o. option_map (λ b. seen (on_air b) (told b) ((Driver-box b).count b.value) (steady b)) o) drivers.new.items))) result }
+        (driven (D.seen drivers.old) (D.seen drivers.new))) result }
 {
     match Conversion::named(words) {
         Some(command) => convert(command, alloc, input, out),

@@ -5,7 +5,8 @@ use Rattle.std.proofs.lemmas.List.{length-append, take-append-le, append-nil}
 use Rattle.std.proofs.lemmas.List.Elements.{All-head}
 use Rattle.rule_tables.specs.Domains.{AreRules}
 use Rattle.rule_tables.specs.declared.domain.Domain.{Domain}
-use Rattle.rule_intersect.specs.Joining.{join_all, met_all}
+use Rattle.rule_intersect.specs.inner.Pairs.{met_all}
+use Rattle.rule_intersect.specs.inner.Pairs.{join_all}
 use Rattle.rule_intersect.specs.Tables.{HasRows, HasFewRows, Joined, IsTableOf, IsTooMany}
 use Rattle.rule_intersect.proofs.OwnRows.{some_own_rows}
 use Rattle.rule_intersect.proofs.Resolved.{IsTableOf-first, IsTableOf-next, IsTooMany-next}

@@ -3,8 +3,12 @@ use Rattle.std.proofs.Common.{◌≡◌, ℕ, suc, ◌≤◌, max, min, nat_lt, 
 use Rattle.std.proofs.lemmas.List.{length-append}
 use Rattle.freq_range.specs.declared.rule.Rule.{Rule}
 use Rattle.rule_intersect.specs.declared.row.Row.{Row}
-use Rattle.rule_intersect.specs.Joining.{meets, meets_rule, met_one, met_all, join, join_one, join_all}
-use Rattle.rule_intersect.specs.Own.{AreOwnRows, row_alone}
+use Rattle.rule_intersect.specs.inner.Pairs.{met_one}
+use Rattle.rule_intersect.specs.inner.Pairs.{met_all}
+use Rattle.rule_intersect.specs.inner.Pairs.{join_one}
+use Rattle.rule_intersect.specs.inner.Pairs.{join_all}
+use Rattle.rule_intersect.specs.Joining.{meets, meets_rule, join}
+use Rattle.rule_intersect.specs.inner.Own.{AreOwnRows, row_alone}
 use Rattle.rule_intersect.specs.Tuples.{Choice}
 use Rattle.rule_intersect.proofs.OwnRows.{rules_of_choices}
 

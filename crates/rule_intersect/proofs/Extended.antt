@@ -10,8 +10,10 @@ use Rattle.freq_range.proofs.Members.{Contains-head, Contains-later, Contains-ca
 use Rattle.rule_tables.proofs.Ascending.{before_rest, pairs_rest}
 use Rattle.rule_tables.specs.declared.domain.Domain.{Domain}
 use Rattle.rule_intersect.specs.declared.row.Row.{Row}
-use Rattle.rule_intersect.specs.Joining.{meets, join, join_one, join_all}
-use Rattle.rule_intersect.specs.Own.{AreChoices, AreOwnRows, row_alone}
+use Rattle.rule_intersect.specs.inner.Pairs.{join_one}
+use Rattle.rule_intersect.specs.inner.Pairs.{join_all}
+use Rattle.rule_intersect.specs.Joining.{meets, join}
+use Rattle.rule_intersect.specs.inner.Own.{AreChoices, AreOwnRows, row_alone}
 use Rattle.rule_intersect.specs.Tables.{AreTuples, AreRows}
 use Rattle.rule_intersect.specs.Tuples.{Choice, IsChoice, IsTuple, IsBefore, HasCommonRange, row_of}
 use Rattle.rule_intersect.proofs.Greatest.{row_of-push}

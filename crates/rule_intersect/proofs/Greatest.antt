@@ -2,7 +2,7 @@
 use Rattle.std.proofs.Common.{◌≡◌, ℕ, ◌*◌, max, min, false, List, [], ◌∷◌, ◌++◌, arith, refl, sym, ap, ◌∙◌}
 use Rattle.std.proofs.lemmas.List.Folds.{list_any-append}
 use Rattle.rule_intersect.specs.Joining.{join}
-use Rattle.rule_intersect.specs.Own.{row_alone}
+use Rattle.rule_intersect.specs.inner.Own.{row_alone}
 use Rattle.rule_intersect.specs.Tuples.{Choice, row_of, greatest_by, least_by, check_ms}
 
 max_apart : (a b c : ℕ) → max a (max b c) ≡ max (max a b) c

@@ -9,7 +9,7 @@ use Rattle.freq_range.specs.declared.rule.Rule.{Rule}
 use Rattle.rule_tables.specs.Width.{IsAllowedWidth}
 use Rattle.rule_tables.proofs.Widths.{IsAllowedWidth-unique, some_width}
 use Rattle.rule_intersect.specs.declared.row.Row.{Row}
-use Rattle.rule_intersect.specs.Own.{AreChoices, AreOwnRows, row_alone}
+use Rattle.rule_intersect.specs.inner.Own.{AreChoices, AreOwnRows, row_alone}
 use Rattle.rule_intersect.specs.Tuples.{Choice, IsChoice}
 
 same_parts : (m n : ℕ) (r s : Rule) (v w : ℕ) → m ≡ n → r ≡ s → v ≡ w

@@ -14,8 +14,9 @@ use Rattle.std.specs.Result.{IsErrAnd}
 use Rattle.rule_intersect.specs.declared.fault.ResolveFault.{ResolveFault}
 use Rattle.rule_intersect.specs.declared.fault.ResolveFault.TheVariants.{OutOfMemory}
 use Rattle.rule_intersect.specs.declared.row.Row.{Row}
-use Rattle.rule_intersect.specs.Joining.{join_all, met_all}
-use Rattle.rule_intersect.specs.Own.{AreChoices, AreOwnRows, row_alone}
+use Rattle.rule_intersect.specs.inner.Pairs.{met_all}
+use Rattle.rule_intersect.specs.inner.Pairs.{join_all}
+use Rattle.rule_intersect.specs.inner.Own.{AreChoices, AreOwnRows, row_alone}
 use Rattle.rule_intersect.specs.Tables.{AreTuples, AreRows, HasRows, HasFewRows, Joined, IsTableOf, IsTooMany, IsResolveFault}
 use Rattle.rule_intersect.specs.Tuples.{Choice, IsChoice, IsTuple, IsBefore, HasCommonRange, row_of}
 use Rattle.rule_intersect.proofs.Counted.{met_all-length}
@@ -154,7 +155,7 @@ IsTooMany-next ds d table n count is counted many one_more =
       few_before = λ m above below. few_longer ds d is.few m above (omega (arith, same));
     }
 
--- want of memory is a fault of a list with few rows
+-- out of memory is a fault of a list with few rows
 pub fault_of_memory : {T : Type 0} (r : Result T ResolveFault) (P : T → Type 0) (ds : List Domain) → IsErrAnd r (λ e. e ≡ OutOfMemory) → HasFewRows ds
     → MatchResult r P (IsResolveFault ds)
 fault_of_memory (Ok x) P ds is few = absurd is

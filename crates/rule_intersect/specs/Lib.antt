@@ -1,5 +1,5 @@
 pub mod Joining
-pub mod Own
 pub mod Subchannels
 pub mod Tables
 pub mod Tuples
+pub mod inner

@@ -2,6 +2,7 @@
 use Rattle.std.specs.Prelude.{◌≡◌, ℕ, ◌<◌, ◌≤◌, List, length, take, map, All, AllPairs, Contains}
 use Rattle.rule_tables.specs.declared.domain.Domain.{Domain}
 use Rattle.rule_intersect.specs.declared.row.Row.{Row}
+use Rattle.rule_intersect.specs.declared.table.TheConstants.{MOST_ROWS}
 use Rattle.rule_intersect.specs.declared.fault.ResolveFault.{ResolveFault}
 use Rattle.rule_intersect.specs.declared.fault.ResolveFault.TheVariants.{TooManyRows, OutOfMemory}
 use Rattle.rule_intersect.specs.Tuples.{Choice, IsTuple, IsBefore, HasCommonRange, row_of}
@@ -24,7 +25,7 @@ HasRows ds n = (rows : List Row) × AreRows ds rows × (n ≡ length rows)
 
 -- the list of domains has at most 1,024 rows
 abbrev pub HasFewRows : List Domain → Type 0
-HasFewRows ds = (n : ℕ) × HasRows ds n × (n ≤ 1024)
+HasFewRows ds = (n : ℕ) × HasRows ds n × (n ≤ MOST_ROWS)
 
 -- what contracts see of a table: its rows, and how many domains it joins
 pub record Joined : Type 0 where
@@ -44,10 +45,10 @@ pub record IsTooMany (ds : List Domain) (after n : ℕ) : Type 0 where
   pub some : 0 < after
   pub within : after ≤ length ds
   pub has : HasRows (take after ds) n
-  pub too_many : 1024 < n
+  pub too_many : MOST_ROWS < n
   pub few_before : (m : ℕ) → 0 < m → m < after → HasFewRows (take m ds)
 
--- why the list of domains has no table; want of memory is a reason only where it has few rows
+-- why the list of domains has no table; out of memory is a reason only where it has few rows
 abbrev pub IsResolveFault : List Domain → ResolveFault → Type 0
 IsResolveFault ds (TooManyRows after n) = IsTooMany ds after n
 IsResolveFault ds OutOfMemory = HasFewRows ds

@@ -5,6 +5,7 @@ use Rattle.freq_range.specs.declared.rule.Rule.{Rule}
 use Rattle.rule_tables.specs.Width.{IsAllowedWidth}
 use Rattle.rule_tables.specs.declared.domain.Domain.{Domain}
 use Rattle.rule_intersect.specs.declared.row.Row.{Row}
+use Rattle.rule_intersect.specs.declared.row.TheConstants.{LEAST_CHECK_MS}
 
 -- a rule that is taken of a domain: its number, counted from 0, the rule itself, and the width in kHz that it allows
 pub record Choice : Type 0 where
@@ -26,10 +27,11 @@ IsBefore [] s = ⊥
 IsBefore (c ∷ t) [] = ⊥
 IsBefore (c ∷ t) (e ∷ s) = (c.number < e.number) ⊎ ((c.number ≡ e.number) × IsBefore t s)
 
--- how long, in ms, a channel is checked for radar under the rule: a minute where the rule doesn't say, and not at all
+-- how long, in ms, a channel is checked for radar under the rule (CAC, channel availability check): the least time where the
+-- rule doesn't say, and not at all
 -- without DFS
 abbrev pub check_ms : Rule → ℕ
-check_ms r = if r.flags.dfs then (if r.cac_s == 0 then 60000 else r.cac_s * 1000) else 0
+check_ms r = if r.flags.dfs then (if r.cac_s == 0 then LEAST_CHECK_MS else r.cac_s * 1000) else 0
 
 abbrev pub greatest_by : {X : Type 0} → (X → ℕ) → List X → ℕ
 greatest_by f [] = 0

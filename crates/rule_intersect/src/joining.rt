@@ -1,13 +1,17 @@
 //! Making the rows of a list of domains, over slices.
 
 ghost use Rattle.std.specs.Prelude.{◌≡◌, ℕ, ◌<◌, ◌≤◌, ◌*◌, ◌++◌, All, IfErr, IfOk, MatchOption, OnOk, length};
-ghost use Rattle.rule_intersect.specs.Joining.{join_all, join_one, met_all, met_one};
-ghost use Rattle.rule_intersect.specs.Own.{AreOwnRows};
+ghost use Rattle.rule_intersect.specs.inner.Pairs.{met_one};
+ghost use Rattle.rule_intersect.specs.inner.Pairs.{met_all};
+ghost use Rattle.rule_intersect.specs.inner.Pairs.{join_one};
+ghost use Rattle.rule_intersect.specs.inner.Pairs.{join_all};
+ghost use Rattle.rule_intersect.specs.inner.Own.{AreOwnRows};
 ghost use Rattle.rule_intersect.specs.Subchannels.{IsFirstRow, NoRowHolds};
 ghost use Rattle.rule_intersect.specs.declared.fault.ResolveFault.TheVariants.{OutOfMemory};
 
 use crate::fault::ResolveFault;
 use crate::row::Row;
+use crate::table::MOST_ROWS;
 use freq_range::Rule;
 use rule_tables::width_among;
 use std::alloc::Global;
@@ -40,7 +44,7 @@ fn count_one(row: &Row, rules: &[Rule]) -> usize
 
 /// How many pairs of a row and a rule meet.
 pub fn count_all(rows: &[Row], rules: &[Rule]) -> usize
-    requires few_rows { length rows.now ≤ 1024 }
+    requires few_rows { length rows.now ≤ MOST_ROWS }
     requires few_rules { length rules.now ≤ 128 }
     ensures count { result ≡ met_all rows.now rules.now }
 {

@@ -9,5 +9,5 @@ mod table;
 
 pub use fault::ResolveFault;
 pub use laws::{first_row_is_that_of_all_domains, one_table};
-pub use row::Row;
-pub use table::Table;
+pub use row::{LEAST_CHECK_MS, Row};
+pub use table::{MOST_DOMAINS, MOST_ROWS, Table};

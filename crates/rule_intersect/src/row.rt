@@ -6,6 +6,10 @@ ghost use Rattle.rule_intersect.specs.Tuples.{check_ms, row_of};
 
 use freq_range::{Range, Rule, RuleFlags};
 
+/// How long a channel is checked for radar under a rule that says no time, in ms: its CAC, the
+/// channel availability check (`IEEE80211_DFS_MIN_CAC_TIME_MS`).
+pub const LEAST_CHECK_MS: u32 = 60_000;
+
 /// What one rule of each domain of a list allows together (`reg_rules_intersect`).
 #[derive(Clone, Copy, Debug, PartialEq, Eq)]
 pub struct Row {
@@ -25,15 +29,14 @@ pub struct Row {
     pub check_ms: u32,
 }
 
-/// How long a channel is checked for radar under the rule, in ms: a minute where it says no time
-/// (`IEEE80211_DFS_MIN_CAC_TIME_MS`), and not at all without DFS.
+/// How long a channel is checked for radar under the rule, in ms: not at all without DFS.
 fn check_length_ms(rule: &Rule) -> u32
     ensures { result ≡ check_ms rule.now }
 {
     if !rule.flags.dfs {
         0
     } else if rule.cac_s == 0 {
-        60_000
+        LEAST_CHECK_MS
     } else {
         u32::from(rule.cac_s) * 1000
     }

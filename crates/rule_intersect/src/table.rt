@@ -7,9 +7,6 @@ ghost use Rattle.rule_intersect.specs.Subchannels.{IsFirstRow, IsGoverningRow, N
 ghost use Rattle.rule_intersect.specs.Tables.{IsResolveFault, IsTableOf};
 ghost use Rattle.rule_intersect.specs.declared.fault.ResolveFault.TheVariants.{OutOfMemory};
 
-#[cfg(test)]
-mod tests;
-
 use crate::fault::ResolveFault;
 use crate::joining::{count_all, first_holding, join_rows, own_rows};
 use crate::row::Row;
@@ -18,7 +15,10 @@ use std::alloc::Global;
 use std::marker::Model;
 
 /// The most rows of a table.
-const MOST_ROWS: usize = 1024;
+pub const MOST_ROWS: usize = 1024;
+
+/// The most domains that a table joins.
+pub const MOST_DOMAINS: usize = 1024;
 
 /// What a list of domains allows together (`regdom_intersect`): a row for each tuple of one rule of
 /// each domain with a common range, in the order of the rule numbers, the first domain's first.
@@ -31,12 +31,13 @@ pub struct Table {
 impl Model for Table {
     ghost use Rattle.std.specs.Prelude.{◌≤◌, length};
     ghost use Rattle.rule_intersect.specs.Tables.{Joined};
+    ghost use Rattle.rule_intersect.specs.declared.table.TheConstants.{MOST_ROWS};
 
     ghost Value = { Joined };
 
     ghost view = { λ t. record { rows = t.rows.items; domains = t.domains } };
 
-    ghost invariant = { λ t. length t.rows.items ≤ 1024 };
+    ghost invariant = { λ t. length t.rows.items ≤ MOST_ROWS };
 }
 
 impl Table {
@@ -59,7 +60,7 @@ impl Table {
     pub fn next(&self, d: &Domain) -> Result<Table, ResolveFault>
         requires valid { All IsValidRule d.now.rules }
         requires few { length d.now.rules ≤ 128 }
-        requires room { self.now.domains < 1024 }
+        requires room { self.now.domains < MOST_DOMAINS }
         ensures table { (ds : List Domain) → IsTableOf ds self.now
             → MatchResult result (IsTableOf (ds ++ d.now ∷ [])) (IsResolveFault (ds ++ d.now ∷ [])) }
         ensures domains { IfOk result (λ t. t.domains ≡ self.now.domains + 1) }
@@ -91,7 +92,7 @@ impl Table {
 
     /// How many domains it joins.
     pub fn domains(&self) -> usize
-        ensures { result ≡ self.now.domains }
+        ensures domains { result ≡ self.now.domains }
     {
         self.domains
     }
@@ -99,20 +100,21 @@ impl Table {
     /// How many rows there are.
     pub fn len(&self) -> usize
         ensures len { result ≡ length self.now.rows }
-        ensures few { result ≤ 1024 }
+        ensures few { result ≤ MOST_ROWS }
     {
         self.rows.len()
     }
 
+    /// Whether there is none.
     pub fn is_empty(&self) -> bool
-        ensures { result ≡ (length self.now.rows == 0) }
+        ensures empty { result ≡ (length self.now.rows == 0) }
     {
         self.rows.is_empty()
     }
 
     /// The row at place `k`, counted from 0, or `None` past the end.
     pub fn row(&self, k: usize) -> Option<Row>
-        ensures { result ≡ slice_get self.now.rows k }
+        ensures row { result ≡ slice_get self.now.rows k }
     {
         self.rows.get(k).copied()
     }

@@ -1,4 +1,4 @@
--- A domain of a new code that a database may hold is refused for want of memory alone.
+-- A domain of a new code that a database may hold is refused out of memory alone.
 use Rattle.std.proofs.Common.{◌≡◌, false, List, None, length, arith, refl}
 use Rattle.freq_range.specs.declared.rule.Rule.{Rule}
 use Rattle.rule_tables.specs.declared.domain.Domain.{Domain}

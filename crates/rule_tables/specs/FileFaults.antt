@@ -27,7 +27,7 @@ IsHeaderFault b fault = ⊥
 
 -- The record at place i is a rule, whatever WMM rule it names: it is in the file, its range begins above 0, ends after its
 -- beginning and holds the width.
-pub record HasRule (b : List ℕ) (i : ℕ) : Type 0 where
+pub record IsRuleAt (b : List ℕ) (i : ℕ) : Type 0 where
   pub long : 16 ≤ u8_at b i
   pub in_file : i + u8_at b i ≤ length b
   pub above_zero : 0 < u32_at b (i + 4)
@@ -44,7 +44,7 @@ rule_place b i k = target_at b (pointers_of b i + 2 * k)
 
 -- something is wrong with the rule number k of the collection at place i, or with the WMM rule that it names
 abbrev pub IsFaultyRule : List ℕ → ℕ → ℕ → Type 0
-IsFaultyRule b i k = (k < u8_at b (i + 1)) × ((HasRule b (rule_place b i k) → ⊥) ⊎ NamesBadWmm b (rule_place b i k))
+IsFaultyRule b i k = (k < u8_at b (i + 1)) × ((IsRuleAt b (rule_place b i k) → ⊥) ⊎ NamesBadWmm b (rule_place b i k))
 
 -- ---- collections
 
@@ -65,16 +65,16 @@ pub record HasRegion (b : List ℕ) (i : ℕ) : Type 0 where
 abbrev pub IsCollectionFault : List ℕ → ℕ → Alpha2 → DbFault → Type 0
 IsCollectionFault b i c (BadCollection code) = (code ≡ c) × (HasCollection b i → ⊥)
 IsCollectionFault b i c (BadRegion code region) = (code ≡ c) × HasCollection b i × (region ≡ u8_at b (i + 2)) × (3 < region)
-IsCollectionFault b i c (BadRule code k) = (code ≡ c) × HasRegion b i × IsFirst (IsFaultyRule b i) k × (HasRule b (rule_place b i k) → ⊥)
+IsCollectionFault b i c (BadRule code k) = (code ≡ c) × HasRegion b i × IsFirst (IsFaultyRule b i) k × (IsRuleAt b (rule_place b i k) → ⊥)
 IsCollectionFault b i c (BadWmm code k) =
-    (code ≡ c) × HasRegion b i × IsFirst (IsFaultyRule b i) k × HasRule b (rule_place b i k) × NamesBadWmm b (rule_place b i k)
+    (code ≡ c) × HasRegion b i × IsFirst (IsFaultyRule b i) k × IsRuleAt b (rule_place b i k) × NamesBadWmm b (rule_place b i k)
 IsCollectionFault b i c fault = ⊥
 
 -- ---- entries
 
 -- the code in the two bytes at place i
-abbrev pub code_at : List ℕ → ℕ → Alpha2
-code_at b i = record { a = u8_at b i; b = u8_at b (i + 1) }
+abbrev pub entry_code : List ℕ → ℕ → Alpha2
+entry_code b i = record { a = u8_at b i; b = u8_at b (i + 1) }
 
 -- an entry before number k has the same two bytes
 abbrev pub IsTwice : List ℕ → ℕ → Type 0
@@ -82,20 +82,20 @@ IsTwice b k = (j : ℕ) × (j < k) × (u16_at b (entry_place j) ≡ u16_at b (en
 
 -- the entry number k has a code, which no entry before it has
 pub record HasNewCode (b : List ℕ) (k : ℕ) : Type 0 where
-  pub code : IsCode (code_at b (entry_place k))
+  pub code : IsCode (entry_code b (entry_place k))
   pub once : IsTwice b k → ⊥
 
 -- what is wrong with the code of the entry number k
 abbrev pub IsCodeFault : List ℕ → ℕ → DbFault → Type 0
 IsCodeFault b k (BadAlpha2 first second) =
-    (first ≡ u8_at b (entry_place k)) × (second ≡ u8_at b (entry_place k + 1)) × (IsCode (code_at b (entry_place k)) → ⊥)
-IsCodeFault b k (CountryTwice code) = (code ≡ code_at b (entry_place k)) × IsCode code × IsTwice b k
+    (first ≡ u8_at b (entry_place k)) × (second ≡ u8_at b (entry_place k + 1)) × (IsCode (entry_code b (entry_place k)) → ⊥)
+IsCodeFault b k (CountryTwice code) = (code ≡ entry_code b (entry_place k)) × IsCode code × IsTwice b k
 IsCodeFault b k fault = ⊥
 
 -- what is wrong with the entry number k: its code, or else the collection at its pointer
 abbrev pub IsEntryFault : List ℕ → ℕ → DbFault → Type 0
 IsEntryFault b k fault = IsCodeFault b k fault
-    ⊎ (HasNewCode b k × IsCollectionFault b (target_at b (entry_place k + 2)) (code_at b (entry_place k)) fault)
+    ⊎ (HasNewCode b k × IsCollectionFault b (target_at b (entry_place k + 2)) (entry_code b (entry_place k)) fault)
 
 abbrev pub HasEntryFault : List ℕ → ℕ → Type 0
 HasEntryFault b k = (fault : DbFault) × IsEntryFault b k fault

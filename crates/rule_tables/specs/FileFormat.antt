@@ -10,8 +10,8 @@ use Rattle.freq_range.specs.declared.wmm.Wmm.{Wmm}
 use Rattle.freq_range.specs.declared.wmm.WmmEntry.{WmmEntry}
 use Rattle.rule_tables.specs.Code.{IsCode}
 use Rattle.rule_tables.specs.Databases.{IsDb}
+use Rattle.rule_tables.specs.Regions.{region_number}
 use Rattle.rule_tables.specs.declared.code.Region.{Region}
-use Rattle.rule_tables.specs.declared.code.Region.TheVariants.{Unset, Fcc, Etsi, Jp}
 use Rattle.rule_tables.specs.declared.domain.Domain.{Domain}
 
 -- the number in the one, two or four bytes at place i
@@ -27,12 +27,6 @@ u32_at b i = big_from i 4 b
 -- the place that the pointer at place i names
 abbrev pub target_at : List ℕ → ℕ → ℕ
 target_at b i = 4 * u16_at b i
-
-abbrev pub region_number : Region → ℕ
-region_number Unset = 0
-region_number Fcc = 1
-region_number Etsi = 2
-region_number Jp = 3
 
 -- the flags of a rule in one byte: 1 NO-OFDM, 2 NO-OUTDOOR, 4 DFS, 8 NO-IR, 16 AUTO-BW; higher bits say nothing
 abbrev pub has_bit : ℕ → ℕ → Bool

@@ -5,3 +5,5 @@ pub mod FileFaults
 pub mod FileFormat
 pub mod Governing
 pub mod Width
+pub mod Regions
+pub mod World

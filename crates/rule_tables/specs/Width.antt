@@ -7,21 +7,21 @@ abbrev pub TouchesNext : List Rule → ℕ → Type 0
 TouchesNext rules i = (r next : Rule) → slice_get rules i ≡ Some r → slice_get rules (i + 1) ≡ Some next → next.start_khz ≤ r.end_khz
 
 -- each rule from place j on, up to the one at place k, touches the next
-abbrev pub IsRun : List Rule → ℕ → ℕ → Type 0
-IsRun rules j k = (i : ℕ) → j ≤ i → i < k → TouchesNext rules i
+abbrev pub IsTouchingRun : List Rule → ℕ → ℕ → Type 0
+IsTouchingRun rules j k = (i : ℕ) → j ≤ i → i < k → TouchesNext rules i
 
 -- j is the first rule of the run of touching rules that has rule k
 pub record IsRunStart (rules : List Rule) (k j : ℕ) : Type 0 where
   pub within : j ≤ k
-  pub run : IsRun rules j k
-  pub least : (i : ℕ) → i < j → IsRun rules i k → ⊥
+  pub run : IsTouchingRun rules j k
+  pub least : (i : ℕ) → i < j → IsTouchingRun rules i k → ⊥
 
 -- m is the last rule of the run of touching rules that has rule k
 pub record IsRunEnd (rules : List Rule) (k m : ℕ) : Type 0 where
   pub within : k ≤ m
   pub in_range : m < length rules
-  pub run : IsRun rules k m
-  pub greatest : (i : ℕ) → m < i → i < length rules → IsRun rules k i → ⊥
+  pub run : IsTouchingRun rules k m
+  pub greatest : (i : ℕ) → m < i → i < length rules → IsTouchingRun rules k i → ⊥
 
 -- The width in kHz of the whole run that has rule k: from the start of its first rule to the end of its last one, or 0
 -- where that end is below that start. It is neither the least start nor the greatest end of the run.

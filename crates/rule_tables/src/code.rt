@@ -12,6 +12,15 @@ pub struct Alpha2 {
 impl Alpha2 {
     ghost use Rattle.rule_tables.specs.Code.{IsCode, key};
 
+    /// The code of the world's domain.
+    pub const WORLD: Alpha2 = Alpha2 { a: b'0', b: b'0' };
+
+    /// The code of a radio's custom rules.
+    pub const CUSTOM: Alpha2 = Alpha2 { a: b'9', b: b'9' };
+
+    /// The code of several domains together.
+    pub const JOINED: Alpha2 = Alpha2 { a: b'9', b: b'8' };
+
     /// Whether it is two capital letters or `00`.
     pub fn is_code(&self) -> bool
         ensures { IsTrue result ↔ IsCode self.now }

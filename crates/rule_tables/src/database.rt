@@ -11,6 +11,7 @@ ghost use Rattle.rule_tables.specs.declared.domain.Domain.{Domain};
 use crate::code::Alpha2;
 use crate::domain::{Domain, DomainFault};
 use freq_range::{Rule, contains_rule};
+use reg_lists::OutOfMemory;
 use std::alloc::{AllocFailed, Global};
 use std::marker::Model;
 use thiserror::Error;
@@ -135,6 +136,23 @@ impl Db {
         match self.domains.insert(place, domain) {
             Ok(()) => Ok(()),
             Err(_refused) => Err(DbInsertFault::OutOfMemory),
+        }
+    }
+
+    /// Puts a domain of a new code in its place. Memory alone may refuse it.
+    pub fn insert_new(&mut self, domain: Domain) -> Result<(), OutOfMemory>
+        requires fresh { HasCode self.old domain.alpha2 → ⊥ }
+        requires domain { IsDomain domain }
+        ensures ok { OnOk result (Inserts self.old self.new domain) }
+        ensures db { IsDb self.new }
+    {
+        match self.insert(domain) {
+            Ok(()) => Ok(()),
+            Err(DbInsertFault::OutOfMemory) => Err(OutOfMemory),
+            Err(DbInsertFault::Twice) => unreachable!(),
+            Err(DbInsertFault::BadCode) => unreachable!(),
+            Err(DbInsertFault::Repeated(_)) => unreachable!(),
+            Err(DbInsertFault::Bad(_)) => unreachable!(),
         }
     }
 

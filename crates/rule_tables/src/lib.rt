@@ -7,6 +7,7 @@ mod domain;
 mod file_fault;
 mod govern;
 mod width;
+mod world;
 
 pub use code::{Alpha2, Region};
 pub use database::{Db, DbInsertFault};

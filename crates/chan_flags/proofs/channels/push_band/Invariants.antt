@@ -1,5 +1,5 @@
 use Rattle.std.proofs.Common.{◌≡◌, None, All, map}
-use Rattle.chan_flags.specs.Listing.{place, AreChannelsBefore}
+use Rattle.chan_flags.specs.inner.Listing.{place, AreChannelsBefore}
 use Rattle.chan_flags.proofs.channels.push_band.Given as goal
 
 abbrev pub invariant-loop-n : goal.invariant-loop-n

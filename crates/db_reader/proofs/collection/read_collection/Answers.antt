@@ -1,5 +1,6 @@
 use Rattle.std.proofs.Common.{◌≡◌, ◌+◌, ◌≤◌, ◌∙◌, refl, subst, sym}
-use Rattle.rule_tables.specs.FileFormat.{region_number, u8_at}
+use Rattle.rule_tables.specs.Regions.{region_number}
+use Rattle.rule_tables.specs.FileFormat.{u8_at}
 use Rattle.rule_tables.specs.FileFaults.{HasCollection, HasRegion}
 use Rattle.db_reader.proofs.Collected.{rules_stop}
 use Rattle.db_reader.proofs.Records.{low_region}

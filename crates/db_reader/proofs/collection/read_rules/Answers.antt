@@ -1,7 +1,7 @@
 use Rattle.std.proofs.Common.{◌≡◌, ◌+◌, ◌*◌, ◌<◌, ◌∙◌, ap, subst}
 use Rattle.rule_tables.specs.FileFormat.{RuleAt, target_at, u8_at}
 use Rattle.rule_tables.specs.FileFaults.{rule_place}
-use Rattle.db_reader.specs.Parts.{IsRuleStop}
+use Rattle.db_reader.specs.inner.Parts.{IsRuleStop}
 use Rattle.db_reader.proofs.Collected.{collected_more, collected_stop}
 use Rattle.db_reader.proofs.collection.read_rules.Goals as goal
 

@@ -17,7 +17,7 @@ loop-k-preserved c =
     let k = c.loop-k.k in
     let here : EndsAt b k → ⊥ = λ ends. (let t = c.if-ends_at.ensures.1 ends in cc) in
     record {
-      db = c.in_ok-put.ensures.db;
-      so_far = entered_more b k c.loop-k.db c.put.new.db c.in_ok-domain.domain c.loop-k.invariant.so_far c.in_ok-domain.ensures c.in_ok-put.ensures.put;
+      db = c.in_ok-insert_new.ensures.db;
+      so_far = entered_more b k c.loop-k.db c.insert_new.new.self c.in_ok-domain.domain c.loop-k.invariant.so_far c.in_ok-domain.ensures c.in_ok-insert_new.ensures.ok;
       going = in_list_before b k c.loop-k.invariant.going here;
     }

@@ -1,6 +1,6 @@
 use Rattle.std.proofs.Common.{subst}
 use Rattle.rule_tables.specs.FileFormat.{CollectionAt}
-use Rattle.db_reader.specs.Parts.{IsCollectionStop}
+use Rattle.db_reader.specs.inner.Parts.{IsCollectionStop}
 use Rattle.db_reader.proofs.Entered.{entry_stop, new_entry}
 use Rattle.db_reader.proofs.Stops.{handed_on}
 use Rattle.db_reader.proofs.entries.read_entry.Goals as goal

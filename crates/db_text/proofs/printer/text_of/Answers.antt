@@ -12,5 +12,5 @@ put_wmm_rules-requires c =
 pub returns : goal.returns
 unfolding printed
 returns c =
-    rw (c.in_ok-put_countries.ensures, c.in_ok-put_wmm_rules.ensures, c.new-out.ensures, c.as_slice.ensures.value, c.in_ok-names.ensures.rules, c.as_slice-domains.ensures.all)
+    rw (c.in_ok-put_countries.ensures, c.in_ok-put_wmm_rules.ensures, c.new-out.ensures.empty, c.as_slice.ensures.value, c.in_ok-names.ensures.rules, c.as_slice-domains.ensures.all)
     (sym (flat_map-append ended (wmm_lines_from 0 (first_uses (wmm_in c.args.db.now))) (flat_map (country_lines (first_uses (wmm_in c.args.db.now))) c.args.db.now)))

@@ -1,10 +1,10 @@
 use Rattle.std.proofs.Common.{List, ℕ, subst, append-nil}
-use Rattle.db_text.specs.Faults.{IsTextOfRule}
+use Rattle.text_lines.specs.LineFaults.{IsTextOfRule}
 use Rattle.db_text.specs.PrintedRules.{rule_part}
 use Rattle.db_text.proofs.PrintedText.{printed_rule_reads}
 use Rattle.db_text.proofs.rule_printer.print_rule.Goals as goal
 
 pub returns-clause-reads : goal.returns-clause-reads
 returns-clause-reads c valid =
-    rw (c.in_ok-put_rule_part.ensures, c.new-out.ensures)
+    rw (c.in_ok-put_rule_part.ensures, c.new-out.ensures.empty)
     (subst (λ (line : List ℕ). IsTextOfRule line c.args.rule.now) (append-nil (rule_part c.args.rule.now)) (printed_rule_reads c.args.rule.now valid c.requires.no_time c.requires.no_wmm))

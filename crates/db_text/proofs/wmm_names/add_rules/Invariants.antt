@@ -1,5 +1,5 @@
 use Rattle.std.proofs.Common.{◌≡◌, drop}
-use Rattle.db_text.specs.Naming.{IsNumbered, all_noted}
+use Rattle.db_text.specs.inner.Naming.{IsNumbered, all_noted}
 use Rattle.db_text.specs.Printed.{wmm_in_rules}
 use Rattle.db_text.proofs.wmm_names.add_rules.Given as goal
 

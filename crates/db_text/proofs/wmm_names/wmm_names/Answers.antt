@@ -1,6 +1,6 @@
 use Rattle.std.proofs.Common.{◌∙◌, sym}
 use Rattle.std.proofs.lemmas.List.{at_drop_all}
-use Rattle.db_text.specs.Naming.{all_noted}
+use Rattle.db_text.specs.inner.Naming.{all_noted}
 use Rattle.db_text.specs.Printed.{wmm_in}
 use Rattle.db_text.proofs.Noted.{first_uses-noted}
 use Rattle.db_text.proofs.wmm_names.wmm_names.Goals as goal

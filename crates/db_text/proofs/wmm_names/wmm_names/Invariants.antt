@@ -1,6 +1,6 @@
 use Rattle.std.proofs.Common.{◌≡◌, drop}
 use Rattle.std.specs.Prelude.{[]}
-use Rattle.db_text.specs.Naming.{IsNumbered, all_noted}
+use Rattle.db_text.specs.inner.Naming.{IsNumbered, all_noted}
 use Rattle.db_text.specs.Printed.{wmm_in}
 use Rattle.db_text.proofs.wmm_names.wmm_names.Given as goal
 

@@ -18,6 +18,6 @@ returns c =
       c.in_ok-put_window.ensures,
       c.in_ok-append-2.ensures.ok,
       c.in_ok-append.ensures.ok,
-      c.item_name.ensures,
+      c.item_name.ensures.name,
       c.in_ok-push.ensures.ok,
     ) (simp append_assoc)

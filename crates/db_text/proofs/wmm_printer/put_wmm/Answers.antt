@@ -1,6 +1,6 @@
 use Rattle.std.proofs.Common.{◌≡◌, ◌++◌, List, ℕ, [], append_assoc, append-nil}
 use Rattle.std.specs.Prelude.{codes}
-use Rattle.db_text.specs.declared.form.Item.TheVariants.{VoC, ViC, BeC, BkC, VoAp, ViAp, BeAp, BkAp}
+use Rattle.text_lines.specs.declared.form.Item.TheVariants.{VoC, ViC, BeC, BkC, VoAp, ViAp, BeAp, BkAp}
 use Rattle.db_text.specs.Printed.{ended, item_line, wmm_lines, wmm_name}
 use Rattle.db_text.proofs.wmm_printer.put_wmm.Goals as goal
 

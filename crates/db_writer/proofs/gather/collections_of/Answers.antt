@@ -1,5 +1,5 @@
 use Rattle.std.proofs.Common.{sym, subst}
-use Rattle.db_writer.specs.Filed.{AreFiled}
+use Rattle.db_writer.specs.inner.Filed.{AreFiled}
 use Rattle.db_writer.proofs.gather.collections_of.Goals as goal
 
 pub collection_record-requires-clause-there : goal.collection_record-requires-clause-there

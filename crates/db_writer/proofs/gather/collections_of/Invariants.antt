@@ -1,6 +1,6 @@
 use Rattle.std.proofs.Common.{◌≡◌, ◌++◌, drop, map}
 use Rattle.db_writer.specs.LaidOut.{collection_record}
-use Rattle.db_writer.specs.Filed.{rule_at_in}
+use Rattle.db_writer.specs.inner.Filed.{rule_at_in}
 use Rattle.db_writer.proofs.gather.collections_of.Given as goal
 
 abbrev pub invariant-loop-domain : goal.invariant-loop-domain

@@ -1,5 +1,5 @@
 use Rattle.std.proofs.Common.{◌≡◌, ◌++◌, drop, map}
-use Rattle.db_writer.specs.Filed.{rule_at_in}
+use Rattle.db_writer.specs.inner.Filed.{rule_at_in}
 use Rattle.db_writer.proofs.gather.places_of_rules.Given as goal
 
 abbrev pub invariant-loop-rule : goal.invariant-loop-rule

@@ -1,6 +1,6 @@
 use Rattle.std.proofs.Common.{◌≡◌, ◌++◌, drop, flat_map}
 use Rattle.db_writer.specs.LaidOut.{wmm_place}
-use Rattle.db_writer.specs.Gathered.{records_of_domain}
+use Rattle.db_writer.specs.inner.Gathered.{records_of_domain}
 use Rattle.db_writer.proofs.gather.rules_of.Given as goal
 
 abbrev pub invariant-loop-domain : goal.invariant-loop-domain

@@ -1,5 +1,5 @@
 use Rattle.std.proofs.Common.{◌≡◌, ◌++◌, drop, flat_map}
-use Rattle.db_writer.specs.Gathered.{wmm_of_domain}
+use Rattle.db_writer.specs.inner.Gathered.{wmm_of_domain}
 use Rattle.db_writer.proofs.gather.wmm_rules_of.Given as goal
 
 abbrev pub invariant-loop-domain : goal.invariant-loop-domain

@@ -1,8 +1,8 @@
 use Rattle.std.proofs.Common.{◌≤◌, map, subst, sym, All, Contains}
-use Rattle.db_writer.specs.Order.{IsSection}
+use Rattle.db_writer.specs.Order.{IsFileSection}
 use Rattle.db_writer.specs.Records.{collection_key, collection_words}
 use Rattle.db_writer.specs.LaidOut.{collection_record}
-use Rattle.db_writer.specs.Filed.{rule_at_in}
+use Rattle.db_writer.specs.inner.Filed.{rule_at_in}
 use Rattle.db_writer.proofs.Sorted.{kept_all}
 use Rattle.db_writer.proofs.Uses.{section_of_used, collections_used, collections-short}
 use Rattle.db_writer.proofs.plan.collection_section.Goals as goal
@@ -15,7 +15,7 @@ pub returns-clause-section : goal.returns-clause-section
 returns-clause-section c =
     let rule_at = rule_at_in c.args.rules.now in
     section_of_used collection_key (map (collection_record rule_at) c.args.domains.now) _ _ (collections_used rule_at c.args.domains.now)
-    (subst (λ xs. IsSection collection_key (Contains xs) c.in_ok-section.section.records.items) c.in_ok-records.ensures c.in_ok-section.ensures.section)
+    (subst (λ xs. IsFileSection collection_key (Contains xs) c.in_ok-section.section.records.items) c.in_ok-records.ensures c.in_ok-section.ensures.section)
 
 pub returns-clause-short : goal.returns-clause-short
 returns-clause-short c =

@@ -1,8 +1,8 @@
 use Rattle.std.proofs.Common.{length, flat_map, ap, subst, Contains, arith}
-use Rattle.db_writer.specs.Order.{IsSection}
+use Rattle.db_writer.specs.Order.{IsFileSection}
 use Rattle.db_writer.specs.Records.{rule_key}
 use Rattle.db_writer.specs.LaidOut.{wmm_place}
-use Rattle.db_writer.specs.Gathered.{records_of_domain}
+use Rattle.db_writer.specs.inner.Gathered.{records_of_domain}
 use Rattle.db_writer.proofs.Uses.{section_of_used, rules_used, rules-few, rule_words-le}
 use Rattle.db_writer.proofs.plan.rule_section.Goals as goal
 
@@ -19,7 +19,7 @@ pub returns-clause-section : goal.returns-clause-section
 returns-clause-section c =
     let wmm_at = wmm_place c.args.wmm_rules.now.first c.args.wmm_rules.now.records.items in
     section_of_used rule_key (flat_map (records_of_domain wmm_at) c.args.domains.now) _ _ (rules_used wmm_at c.args.domains.now)
-    (subst (λ xs. IsSection rule_key (Contains xs) c.in_ok-section.section.records.items) c.in_ok-records.ensures c.in_ok-section.ensures.section)
+    (subst (λ xs. IsFileSection rule_key (Contains xs) c.in_ok-section.section.records.items) c.in_ok-records.ensures c.in_ok-section.ensures.section)
 
 pub returns-clause-few : goal.returns-clause-few
 returns-clause-few c =

@@ -1,6 +1,6 @@
 use Rattle.std.proofs.Common.{length, flat_map, ap, subst, Contains, arith}
-use Rattle.db_writer.specs.Order.{IsSection}
-use Rattle.db_writer.specs.Gathered.{wmm_of_domain}
+use Rattle.db_writer.specs.Order.{IsFileSection}
+use Rattle.db_writer.specs.inner.Gathered.{wmm_of_domain}
 use Rattle.db_writer.proofs.Uses.{section_of_used, wmm_used, wmm-few}
 use Rattle.db_writer.proofs.plan.wmm_section.Goals as goal
 
@@ -13,7 +13,7 @@ section_of-requires-clause-few c =
 pub returns-clause-section : goal.returns-clause-section
 returns-clause-section c =
     section_of_used (λ bytes. bytes) (flat_map wmm_of_domain c.args.domains.now) _ _ (wmm_used c.args.domains.now)
-    (subst (λ xs. IsSection (λ bytes. bytes) (Contains xs) c.in_ok-section.section.records.items) c.in_ok-records.ensures c.in_ok-section.ensures.section)
+    (subst (λ xs. IsFileSection (λ bytes. bytes) (Contains xs) c.in_ok-section.section.records.items) c.in_ok-records.ensures c.in_ok-section.ensures.section)
 
 pub returns-clause-few : goal.returns-clause-few
 returns-clause-few c =

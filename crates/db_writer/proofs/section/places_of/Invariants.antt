@@ -1,5 +1,5 @@
 use Rattle.std.proofs.Common.{◌≡◌, ◌++◌, ◌+◌, ◌*◌, ◌≤◌, drop}
-use Rattle.db_writer.specs.Places.{places_from}
+use Rattle.db_writer.specs.inner.Places.{places_from}
 use Rattle.db_writer.proofs.section.places_of.Given as goal
 
 -- the places so far, and those of the rest, are those of all

@@ -1,5 +1,5 @@
 use Rattle.std.proofs.Common.{arith}
-use Rattle.dfs_states.specs.Steps.{CheckFollows}
+use Rattle.dfs_states.specs.inner.Steps.{CheckFollows}
 use Rattle.dfs_states.proofs.Each.{follows_more, follows_all}
 use Rattle.dfs_states.proofs.check.clear_done.Goals as goal
 

@@ -1,4 +1,4 @@
-use Rattle.dfs_states.specs.Steps.{CheckFollows}
+use Rattle.dfs_states.specs.inner.Steps.{CheckFollows}
 use Rattle.dfs_states.proofs.Each.{FollowsBelow}
 use Rattle.dfs_states.proofs.check.clear_done.Given as goal
 

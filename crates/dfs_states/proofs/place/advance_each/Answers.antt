@@ -1,6 +1,6 @@
 use Rattle.dfs_states.specs.Calls.{Advance}
 use Rattle.dfs_states.specs.StandsFor.{AreChecks}
-use Rattle.dfs_states.specs.Steps.{PlaceFollows}
+use Rattle.dfs_states.specs.inner.Steps.{PlaceFollows}
 use Rattle.dfs_states.proofs.Each.{follows_more}
 use Rattle.dfs_states.proofs.place.advance_each.Goals as goal
 

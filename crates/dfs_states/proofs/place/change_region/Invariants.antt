@@ -1,5 +1,5 @@
 use Rattle.dfs_states.specs.Calls.{RegionChanged}
-use Rattle.dfs_states.specs.Steps.{PlaceFollows}
+use Rattle.dfs_states.specs.inner.Steps.{PlaceFollows}
 use Rattle.dfs_states.proofs.Each.{FollowsBelow}
 use Rattle.dfs_states.proofs.place.change_region.Given as goal
 

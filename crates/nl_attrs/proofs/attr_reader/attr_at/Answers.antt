@@ -10,4 +10,4 @@ returns-clause-parts c =
     let bytes : IsBytes c.args.bytes.now = λ i. omega (arith, c.type_inv.bytes i) in
     let field = c.u16_at-field.ensures in
     let kind : kind_field _ (leb 32768 c.u16_at-field.result) ≡ c.u16_at-field.result = kind_field_of c.u16_at-field.result (rw field (u16_at-lt _ 2 bytes)) (rw field c.requires.bit) in
-    rw (take_rest, c.aligned.ensures) (attr_taken c.args.bytes.now _ c.u16_at-length.result bytes c.requires c.u16_at-length.ensures (kind ∙ field) (rw (c.in_ok-append.ensures.ok, c.new-payload.ensures) refl))
+    rw (take_rest, c.aligned.ensures) (attr_taken c.args.bytes.now _ c.u16_at-length.result bytes c.requires c.u16_at-length.ensures (kind ∙ field) (rw (c.in_ok-append.ensures.ok, c.new-payload.ensures.empty) refl))

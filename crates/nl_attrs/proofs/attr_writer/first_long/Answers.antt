@@ -7,7 +7,7 @@ use Rattle.nl_attrs.proofs.attr_writer.first_long.Goals as goal
 
 pub returns-then-length-gt-MOST_PAYLOAD : goal.returns-then-length-gt-MOST_PAYLOAD
 returns-then-length-gt-MOST_PAYLOAD c =
-    rw c.len-length.ensures (first_long_at _ _ _ c.loop-attr-test.true c.attr-item.is c.loop-attr.invariant (omega arith))
+    rw c.len-length.ensures.len (first_long_at _ _ _ c.loop-attr-test.true c.attr-item.is c.loop-attr.invariant (omega arith))
 
 pub loop-attr-preserved : goal.loop-attr-preserved
 loop-attr-preserved c =

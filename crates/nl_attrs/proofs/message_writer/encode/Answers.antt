@@ -9,14 +9,14 @@ pub returns-in_err-length-in-Generic-clause-overlong :
     goal.returns-in_err-length-in-Generic-clause-overlong
 returns-in_err-length-in-Generic-clause-overlong c =
     let p = err_from_is_err_and c.from_residual.result c.from_residual.ensures.1 in
-    rw (p.1, p.2, c.in-Generic.is) (size_fault _ _ _ _ _ _ _ _ (rw c.as_slice-attrs.ensures at c.in_err-length-in-Generic.ensures.fault))
+    rw (p.1, p.2, c.in-Generic.is) (size_fault _ _ _ _ _ _ _ _ (rw c.as_slice-attrs.ensures.items at c.in_err-length-in-Generic.ensures.fault))
 
 -- a message whose length was found has a spelling
 sound : (c : After-generic_bytes) → IsMsg c.args.m.now
 sound c =
     let few = c.in_ok-length-in-Generic.ensures.length in
     let short = c.in_ok-length-in-Generic.ensures.short in
-    rw c.in-Generic.is (generic_is _ _ _ _ _ _ _ (omega arith) (omega arith) (omega arith) (omega arith) (rw c.in-Generic.is at c.requires) (rw c.as_slice-attrs.ensures at short) (rw (← c.as_slice-attrs.ensures) (omega (arith, few.0, few.1))))
+    rw c.in-Generic.is (generic_is _ _ _ _ _ _ _ (omega arith) (omega arith) (omega arith) (omega arith) (rw c.in-Generic.is at c.requires) (rw c.as_slice-attrs.ensures.items at short) (rw (← c.as_slice-attrs.ensures.items) (omega (arith, few.0, few.1))))
 
 pub returns-in_ok-bytes-in-Generic-clause-message : goal.returns-in_ok-bytes-in-Generic-clause-message
 returns-in_ok-bytes-in-Generic-clause-message c =

@@ -1,11 +1,11 @@
 use Rattle.std.proofs.Common.{◌≡◌, true, false, ◌==◌, sym, ◌∙◌, ne_eqb}
-use Rattle.reg_core.specs.Ports.{is_on_radio}
+use Rattle.reg_core.specs.inner.Interfaces.{is_on_radio}
 use Rattle.reg_core.proofs.Beside.{beside_other, is_of_other}
 use Rattle.reg_core.proofs.contexts.channel_beside.Goals as goal
 
 pub returns : goal.returns
 returns c =
-    let apart : (c.args.other.now.index == c.args.port.now.index) ≡ false = ne_eqb _ _ c.if-other-port.false in
-    let on : is_on_radio c.args.port.now.radio c.args.other.now ≡ true = sym c.is_on.ensures ∙ c.if-not-is_on.false in
-    λ db J x y is. c.channel_of.ensures db J y (is_of_other db J x y c.args.book.now c.args.port.now c.args.other.now is on)
-    ∙ beside_other J x y c.args.port.now c.args.other.now is.of.port_is is.other_is apart on
+    let apart : (c.args.other.now.index == c.args.interface.now.index) ≡ false = ne_eqb _ _ c.if-other-interface.false in
+    let on : is_on_radio c.args.interface.now.radio c.args.other.now ≡ true = sym c.is_on.ensures ∙ c.if-not-is_on.false in
+    λ db J x y is. c.channel_of.ensures db J y (is_of_other db J x y c.args.book.now c.args.interface.now c.args.other.now is on)
+    ∙ beside_other J x y c.args.interface.now c.args.other.now is.of.interface_is is.other_is apart on

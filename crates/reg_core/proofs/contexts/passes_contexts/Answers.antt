@@ -5,7 +5,7 @@ use Rattle.chan_flags.specs.Profiles.{Abilities}
 use Rattle.reg_journal.specs.Facts.{Journal}
 use Rattle.reg_journal.specs.Permits.{channels_beside, distinct, distinct_from}
 use Rattle.reg_journal.specs.Present.{Iface, ifaces_of}
-use Rattle.reg_core.specs.Judging.{IsAmong}
+use Rattle.reg_core.specs.inner.Judging.{IsAmong}
 use Rattle.reg_core.proofs.Beside.{beside_all, beside_each, walk_none, walk_on, walk_passes, walk_some}
 use Rattle.reg_core.proofs.contexts.passes_contexts.Goals as goal
 use Rattle.reg_core.proofs.contexts.passes_contexts.Goals.{in-Some+else-not-add, in_default}
@@ -13,17 +13,17 @@ use Rattle.reg_core.proofs.contexts.passes_contexts.Goals.{in-Some+else-not-add,
 pub loop-other-init : goal.loop-other-init
 loop-other-init c = record {
   few =
-      let one = ap length c.one-found.ensures in
+      let one = ap length c.only-found.ensures in
       let same = c.from-most.ensures in
       let some = c.contexts.ensures.some in
       omega (arith, one, same, some);
-  so_far = λ db J x is. ap (λ found. distinct_from found (beside_all J x (ifaces_of J))) c.one-found.ensures ∙ ap (distinct_from (c.args.chan.now ∷ [])) (beside_each J x (ifaces_of J));
+  so_far = λ db J x is. ap (λ found. distinct_from found (beside_all J x (ifaces_of J))) c.only-found.ensures ∙ ap (distinct_from (c.args.chan.now ∷ [])) (beside_each J x (ifaces_of J));
 }
 
-walked : (c : goal.Joined-channel_beside) (db : List Domain) (J : Journal) (x : Iface) → IsAmong db J x c.args.port.now c.args.ports.now c.args.radio.now
+walked : (c : goal.Joined-channel_beside) (db : List Domain) (J : Journal) (x : Iface) → IsAmong db J x c.args.interface.now c.args.interfaces.now c.args.radio.now
     → distinct_from c.loop-other.found (cons_option c.channel_beside.result (beside_all J x (drop (c.loop-other.other-index + 1) (ifaces_of J)))) ≡ distinct (c.args.chan.now ∷ channels_beside J x)
 walked c db J x is =
-    walk_on db J x c.args.port.now c.args.ports.now c.args.radio.now c.other-item.result c.loop-other.other-index c.loop-other.found (distinct (c.args.chan.now ∷ channels_beside J x)) c.channel_beside.result is
+    walk_on db J x c.args.interface.now c.args.interfaces.now c.args.radio.now c.other-item.result c.loop-other.other-index c.loop-other.found (distinct (c.args.chan.now ∷ channels_beside J x)) c.channel_beside.result is
     c.loop-other-test.true c.other-item.is (c.channel_beside.ensures db J x) (c.loop-other.invariant.so_far db J x is)
 
 pub returns-then-not-add : goal.returns-then-not-add
@@ -31,7 +31,7 @@ returns-then-not-add c = λ db J x is.
     let most = c.from-most.ensures ∙ c.contexts.ensures.contexts ∙ ap (λ (p : Abilities). p.contexts) c.profile.ensures in
     let all = distinct (c.args.chan.now ∷ channels_beside J x) in
     let rest = drop (c.loop-other.other-index + 1) (ifaces_of J) in
-    let walked = walk_on db J x c.args.port.now c.args.ports.now c.args.radio.now c.other-item.result c.loop-other.other-index c.loop-other.found all c.channel_beside.result is
+    let walked = walk_on db J x c.args.interface.now c.args.interfaces.now c.args.radio.now c.other-item.result c.loop-other.other-index c.loop-other.found all c.channel_beside.result is
     c.loop-other-test.true c.other-item.is (c.channel_beside.ensures db J x) (c.loop-other.invariant.so_far db J x is) in
     let full = c.add.ensures.full c.if-not-add.true in
     let more = walk_passes J x rest c.loop-other.found all c.in-Some.channel c.channel_beside.result c.from-most.result c.in-Some.is full walked in

@@ -1,7 +1,7 @@
 use Rattle.std.proofs.Common.{◌∷◌, [], None, length, get_or, arith, sym, subst, ap, ◌∙◌}
 use Rattle.std.proofs.lemmas.List.{length-append}
-use Rattle.reg_core.specs.Hinting.{IsNewTable, lists_after}
-use Rattle.reg_core.specs.declared.radio.RadioSlot.TheVariants.{Free}
+use Rattle.reg_core.specs.inner.Hinting.{IsNewTable, lists_after}
+use Rattle.reg_core.specs.declared.radio.RadioPlace.TheVariants.{Free}
 use Rattle.reg_core.proofs.NewTables.{one_more_table, refused, rest_fault, rest_past}
 use Rattle.reg_core.proofs.hinting.new_tables.Goals as goal
 
@@ -22,7 +22,7 @@ loop-number-preserved c =
     let hint = c.args.hint.now in
     let radios = c.args.radios.now in
     let k = c.loop-number.number in
-    let slot = c.index-radios-number.result in
+    let place = c.index-radios-number.result in
     let table = c.in_ok-new_table.field-0 in
     let pushed = c.in_ok-push.ensures.items in
     let count = c.loop-number.invariant.all in
@@ -30,6 +30,6 @@ loop-number-preserved c =
     record {
       all = omega (arith, len, count);
       each = λ r below. subst (λ tables. IsNewTable db after hint r (get_or radios r Free) (get_or tables r None)) (sym pushed)
-          (one_more_table db after hint radios c.loop-number.tables.items k slot table count c.loop-number-test.true c.loop-number.invariant.each c.index-radios-number.is c.in_ok-new_table.ensures r below);
-      rest = λ e rest. c.loop-number.invariant.rest e (rest_past db after hint radios k slot table e c.loop-number-test.true c.index-radios-number.is c.in_ok-new_table.ensures rest);
+          (one_more_table db after hint radios c.loop-number.tables.items k place table count c.loop-number-test.true c.loop-number.invariant.each c.index-radios-number.is c.in_ok-new_table.ensures r below);
+      rest = λ e rest. c.loop-number.invariant.rest e (rest_past db after hint radios k place table e c.loop-number-test.true c.index-radios-number.is c.in_ok-new_table.ensures rest);
     }

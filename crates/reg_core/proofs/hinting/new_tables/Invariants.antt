@@ -1,8 +1,8 @@
 use Rattle.std.proofs.Common.{◌≡◌, ◌<◌, ℕ, None, drop, length, slice_index_or}
 use Rattle.reg_journal.specs.Refusals.{RowCauses}
 use Rattle.reg_journal.specs.declared.refusal.Refusal.{Refusal}
-use Rattle.reg_core.specs.Hinting.{IsNewTable, lists_after}
-use Rattle.reg_core.specs.declared.radio.RadioSlot.TheVariants.{Free}
+use Rattle.reg_core.specs.inner.Hinting.{IsNewTable, lists_after}
+use Rattle.reg_core.specs.declared.radio.RadioPlace.TheVariants.{Free}
 use Rattle.reg_core.proofs.hinting.new_tables.Given as goal
 
 abbrev pub invariant-loop-number : goal.invariant-loop-number

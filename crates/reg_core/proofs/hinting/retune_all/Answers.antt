@@ -1,10 +1,10 @@
 use Rattle.std.proofs.Common.{rules, ◌≡◌, ◌∷◌, [], ℕ, length, get_or, arith, sym, subst, ap, ◌∙◌}
 use Rattle.std.proofs.Math.ListN.{set}
 use Rattle.std.proofs.lemmas.List.{length-append}
-use Rattle.reg_core.specs.Hinting.{IsNewTable}
+use Rattle.reg_core.specs.inner.Hinting.{IsNewTable}
 use Rattle.reg_core.proofs.NewTables.{table_at}
-use Rattle.reg_core.specs.declared.radio.RadioSlot.{RadioSlot}
-use Rattle.reg_core.specs.declared.radio.RadioSlot.TheVariants.{Free}
+use Rattle.reg_core.specs.declared.radio.RadioPlace.{RadioPlace}
+use Rattle.reg_core.specs.declared.radio.RadioPlace.TheVariants.{Free}
 use Rattle.reg_core.proofs.KeptOn.{Retunes}
 use Rattle.reg_core.proofs.Places.{AreDoneFrom, one_before_done}
 use Rattle.reg_core.proofs.Taken.{IsPopped, popped}
@@ -17,17 +17,17 @@ last_table c =
 same_number : (c : goal.After-index-radios-number) → c.len-number.result ≡ length c.pop.new.self.items
 same_number c = search rules
 
-pub retune_slot-requires : goal.retune_slot-requires
-retune_slot-requires c =
+pub retune_place-requires : goal.retune_place-requires
+retune_place-requires c =
     let db = c.args.domains.now in
     let after = c.args.after.now in
     let hint = c.args.hint.now in
     let rest = c.pop.new.self.items in
-    let slot = c.index-radios-number.result in
+    let place = c.index-radios-number.result in
     let len = ap length c.in-Some.ensures.items ∙ length-append rest (c.in-Some.table ∷ []) in
     record {
-      table = subst (λ n. IsNewTable db after hint n (get_or c.places.radios n slot) c.in-Some.table) (sym (same_number c))
-          (table_at db after hint c.args.radios.now c.places.radios c.args.tables.items rest c.in-Some.table slot c.requires.tables (last_table c) c.places.auto.radios
+      table = subst (λ n. IsNewTable db after hint n (get_or c.places.radios n place) c.in-Some.table) (sym (same_number c))
+          (table_at db after hint c.args.radios.now c.places.radios c.args.tables.items rest c.in-Some.table place c.requires.tables (last_table c) c.places.auto.radios
           (c.places.invariant.done.rest (length rest) (omega (arith, len))));
     }
 
@@ -37,21 +37,21 @@ places-preserved c =
     let before = c.args.before.now in
     let after = c.args.after.now in
     let hint = c.args.hint.now in
-    let P : ℕ → RadioSlot → RadioSlot → Type 0 = Retunes db before after hint in
+    let P : ℕ → RadioPlace → RadioPlace → Type 0 = Retunes db before after hint in
     let rest = c.pop.new.self.items in
     let n = length rest in
-    let slot = c.index-radios-number.result in
+    let place = c.index-radios-number.result in
     let last = last_table c.before in
     let within = last.within in
     let all = c.requires.tables.all in
     let long = c.places.auto.radios in
     let len = ap length c.in-Some.ensures.items ∙ length-append rest (c.in-Some.table ∷ []) in
     let done = subst (λ k. AreDoneFrom P Free c.args.radios.now c.places.radios k) len c.places.invariant.done in
-    let step : P n (get_or c.places.radios n slot) c.retune_slot.new.slot =
-    subst (λ k. P k (get_or c.places.radios k slot) c.retune_slot.new.slot) (same_number c.before) c.retune_slot.ensures.kept in
+    let step : P n (get_or c.places.radios n place) c.retune_place.new.place =
+    subst (λ k. P k (get_or c.places.radios k place) c.retune_place.new.place) (same_number c.before) c.retune_place.ensures.kept in
     record {
-      done = subst (λ k. AreDoneFrom P Free c.args.radios.now (set c.places.radios k c.retune_slot.new.slot) n) (sym (same_number c.before))
-          (one_before_done P Free c.args.radios.now c.places.radios n slot c.retune_slot.new.slot done (omega (arith, within, all, long)) step);
+      done = subst (λ k. AreDoneFrom P Free c.args.radios.now (set c.places.radios k c.retune_place.new.place) n) (sym (same_number c.before))
+          (one_before_done P Free c.args.radios.now c.places.radios n place c.retune_place.new.place done (omega (arith, within, all, long)) step);
       tables = last.front;
       few = omega (arith, within);
     }

@@ -1,5 +1,5 @@
 use Rattle.std.proofs.Common.{◌≡◌, ◌≤◌, length, take, vec_len}
-use Rattle.reg_core.specs.declared.radio.RadioSlot.TheVariants.{Free}
+use Rattle.reg_core.specs.declared.radio.RadioPlace.TheVariants.{Free}
 use Rattle.reg_core.proofs.KeptOn.{Retunes}
 use Rattle.reg_core.proofs.Places.{AreDoneFrom}
 use Rattle.reg_core.proofs.hinting.retune_all.Given as goal

@@ -3,9 +3,9 @@ use Rattle.rule_tables.specs.declared.domain.Domain.{Domain}
 use Rattle.chan_def.specs.Covered.{width_khz, IsSubchannel}
 use Rattle.reg_journal.specs.Facts.{Journal}
 use Rattle.reg_journal.specs.Permits.{IsBoundOn}
-use Rattle.reg_core.specs.Demands.{HasRules, Meets}
+use Rattle.reg_core.specs.inner.Demands.{HasRules, MeetsDemand}
 use Rattle.reg_core.proofs.radar.lowest_failing.Given as goal
 
 abbrev pub invariant-loop-i : goal.invariant-loop-i
 invariant-loop-i l = (db : List Domain) (J : Journal) (r : ℕ) → HasRules db J r l.radio l.chan
-    → (s j : ℕ) → j < l.i → IsSubchannel (width_khz l.chan.width) l.chan.centre_khz j s → IsBoundOn db J r s → Meets db J r l.demand s
+    → (s j : ℕ) → j < l.i → IsSubchannel (width_khz l.chan.width) l.chan.centre_khz j s → IsBoundOn db J r s → MeetsDemand db J r l.demand s

@@ -1,5 +1,5 @@
 use Rattle.std.proofs.Common.{arith, rules, get_or}
-use Rattle.reg_core.specs.declared.radio.RadioSlot.TheVariants.{Free}
+use Rattle.reg_core.specs.declared.radio.RadioPlace.TheVariants.{Free}
 use Rattle.reg_core.proofs.Asked.{asked_radio}
 use Rattle.reg_core.proofs.radios.radio_at.Goals as goal
 

@@ -1,7 +1,7 @@
 use Rattle.std.proofs.Common.{◌-◌, ◌≤◌, length, take}
 use Rattle.std.specs.List.{filter_map}
 use Rattle.reg_journal.specs.Applicable.{find_domain}
-use Rattle.reg_core.specs.RegionSoFar.{IsRegionSoFar}
+use Rattle.reg_core.specs.inner.RegionSoFar.{IsRegionSoFar}
 use Rattle.reg_core.proofs.regions.shared_region.Given as goal
 
 abbrev pub invariant-codes : goal.invariant-codes

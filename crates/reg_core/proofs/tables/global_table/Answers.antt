@@ -1,4 +1,4 @@
-use Rattle.reg_core.specs.Lists.{global_by}
+use Rattle.reg_core.specs.inner.Lists.{global_by}
 use Rattle.reg_core.proofs.Fronts.{made_of_some}
 use Rattle.reg_core.proofs.tables.global_table.Goals as goal
 

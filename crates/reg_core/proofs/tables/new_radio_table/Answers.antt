@@ -1,6 +1,6 @@
 use Rattle.std.proofs.Common.{[], None}
 use Rattle.rule_intersect.proofs.OneTable.{no_table_of_too_many}
-use Rattle.reg_core.specs.Lists.{applies_by}
+use Rattle.reg_core.specs.inner.Lists.{applies_by}
 use Rattle.reg_core.proofs.NewLists.{some_table}
 use Rattle.reg_core.proofs.tables.new_radio_table.Goals as goal
 

@@ -1,6 +1,6 @@
 use Rattle.std.proofs.Common.{◌++◌}
 use Rattle.std.specs.Option.{option_copied, option_to_list}
-use Rattle.reg_core.specs.Lists.{driver_by, shared_by}
+use Rattle.reg_core.specs.inner.Lists.{driver_by, shared_by}
 use Rattle.reg_core.proofs.Fronts.{IsMadeFault-front, handed_on_or_nothing}
 use Rattle.reg_core.proofs.tables.radio_table.Goals as goal
 
@@ -15,15 +15,15 @@ returns-in_err-shared c =
           (IsMadeFault-front (shared ++ own) driver fault (IsMadeFault-front shared own fault c.in_err-shared.ensures.made));
     }
 
-pub returns-in_err-with_own : goal.returns-in_err-with_own
-returns-in_err-with_own c =
+pub returns-in_err-with_custom : goal.returns-in_err-with_custom
+returns-in_err-with_custom c =
     let shared = shared_by c.args.domains.now c.args.hints.now c.args.self_managed in
     let own = option_to_list (option_copied c.args.custom) in
     let driver = driver_by c.args.domains.now c.args.driver in
-    let fault = c.in_err-with_own.field-0.0 in
-    let made = rw c.own_of.ensures.domain at (c.in_err-with_own.ensures.made shared c.in_ok-shared.ensures.made) in
+    let fault = c.in_err-with_custom.field-0.0 in
+    let made = rw c.custom_of.ensures.domain at (c.in_err-with_custom.ensures.made shared c.in_ok-shared.ensures.made) in
     record {
-      made = handed_on_or_nothing (shared ++ own ++ driver) c.from_residual-in_err-with_own.result fault c.from_residual-in_err-with_own.ensures.1
+      made = handed_on_or_nothing (shared ++ own ++ driver) c.from_residual-in_err-with_custom.result fault c.from_residual-in_err-with_custom.ensures.1
           (IsMadeFault-front (shared ++ own) driver fault made);
     }
 
@@ -32,8 +32,8 @@ returns-in_err-with_driver c =
     let shared = shared_by c.args.domains.now c.args.hints.now c.args.self_managed in
     let own = option_to_list (option_copied c.args.custom) in
     let driver = driver_by c.args.domains.now c.args.driver in
-    let with_own = rw c.own_of.ensures.domain at (c.in_ok-with_own.ensures.made shared c.in_ok-shared.ensures.made) in
-    let made = rw c.driver_of.ensures.domain at (c.in_err-with_driver.ensures.made (shared ++ own) with_own) in
+    let with_custom = rw c.custom_of.ensures.domain at (c.in_ok-with_custom.ensures.made shared c.in_ok-shared.ensures.made) in
+    let made = rw c.driver_of.ensures.domain at (c.in_err-with_driver.ensures.made (shared ++ own) with_custom) in
     record {
       made = handed_on_or_nothing (shared ++ own ++ driver) c.from_residual-in_err-with_driver.result c.in_err-with_driver.field-0.0
           c.from_residual-in_err-with_driver.ensures.1 made;
@@ -44,6 +44,6 @@ returns c =
     let shared = shared_by c.args.domains.now c.args.hints.now c.args.self_managed in
     let own = option_to_list (option_copied c.args.custom) in
     let driver = driver_by c.args.domains.now c.args.driver in
-    let with_own = rw c.own_of.ensures.domain at (c.in_ok-with_own.ensures.made shared c.in_ok-shared.ensures.made) in
-    let with_driver = rw c.driver_of.ensures.domain at (c.in_ok-with_driver.ensures.made (shared ++ own) with_own) in
+    let with_custom = rw c.custom_of.ensures.domain at (c.in_ok-with_custom.ensures.made shared c.in_ok-shared.ensures.made) in
+    let with_driver = rw c.driver_of.ensures.domain at (c.in_ok-with_driver.ensures.made (shared ++ own) with_custom) in
     record { made = c.or_nothing.ensures.made (shared ++ own ++ driver) with_driver }

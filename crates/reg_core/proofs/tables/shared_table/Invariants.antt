@@ -1,12 +1,12 @@
 use Rattle.std.proofs.Common.{◌-◌, ◌≤◌, length, take}
 use Rattle.std.specs.List.{filter_map}
 use Rattle.reg_journal.specs.Applicable.{find_domain}
-use Rattle.reg_core.specs.Making.{IsSoFar, joined_count}
+use Rattle.reg_core.specs.inner.Making.{IsTableSoFar, joined_count}
 use Rattle.reg_core.proofs.tables.shared_table.Given as goal
 
 abbrev pub invariant-codes : goal.invariant-codes
 invariant-codes l = record {
-  so_far : IsSoFar (filter_map (find_domain l.domains) (take l.k l.hints.global)) l.so_far;
+  so_far : IsTableSoFar (filter_map (find_domain l.domains) (take l.k l.hints.global)) l.so_far;
   count : joined_count l.so_far ≤ l.k;
   within : l.k ≤ length l.hints.global;
 }

@@ -10,7 +10,7 @@ returns-then-is_err-clause-answering g c = λ db stands.
 pub returns-then-is_err-2-clause-answering : goal.returns-then-is_err-2-clause-answering
 returns-then-is_err-2-clause-answering g c = λ db stands.
     stops_within c.answer_line.result c.write_text.result db _ c.in-Some.line.now _ _ _ _ _ _ _ _ _ c.answer_line.new.core _
-    c.in-Some.ensures.line c.if-is_err.ensures.value c.if-is_err-2.ensures.value c.as_slice.ensures c.lines.invariant.later
+    c.in-Some.ensures.line c.if-is_err.ensures.value c.if-is_err-2.ensures.value c.as_slice.ensures.items c.lines.invariant.later
     c.answer_line.ensures.answered c.write_text.ensures.bytes c.write_text.ensures.cause (c.lines.invariant.so_far db stands)
 
 pub lines-preserved : goal.lines-preserved
@@ -19,6 +19,6 @@ lines-preserved g c = record {
   later = le_trans c.lines.invariant.later c.write_text.ensures.cause.later;
   so_far = λ db stands.
       goes_on c.answer_line.result c.write_text.result db _ c.in-Some.line.now _ _ _ _ _ _ _ _ c.answer_line.new.core _ _ _
-      c.in-Some.ensures.line c.if-is_err.ensures.value c.if-is_err-2.ensures.value c.as_slice.ensures
+      c.in-Some.ensures.line c.if-is_err.ensures.value c.if-is_err-2.ensures.value c.as_slice.ensures.items
       c.answer_line.ensures.answered c.write_text.ensures.bytes (c.lines.invariant.so_far db stands);
 }

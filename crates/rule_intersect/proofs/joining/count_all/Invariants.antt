@@ -1,5 +1,5 @@
 use Rattle.std.proofs.Common.{◌≡◌, ◌+◌, ◌*◌, ◌≤◌, drop}
-use Rattle.rule_intersect.specs.Joining.{met_all}
+use Rattle.rule_intersect.specs.inner.Pairs.{met_all}
 use Rattle.rule_intersect.proofs.joining.count_all.Given as goal
 
 abbrev pub invariant-loop-row : goal.invariant-loop-row

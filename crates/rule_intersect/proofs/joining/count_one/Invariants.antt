@@ -1,5 +1,5 @@
 use Rattle.std.proofs.Common.{◌≡◌, ◌+◌, ◌≤◌, drop}
-use Rattle.rule_intersect.specs.Joining.{met_one}
+use Rattle.rule_intersect.specs.inner.Pairs.{met_one}
 use Rattle.rule_intersect.proofs.joining.count_one.Given as goal
 
 abbrev pub invariant-loop-rule : goal.invariant-loop-rule

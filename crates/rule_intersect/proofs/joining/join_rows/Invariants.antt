@@ -1,5 +1,5 @@
 use Rattle.std.proofs.Common.{◌≡◌, ◌++◌, drop}
-use Rattle.rule_intersect.specs.Joining.{join_all}
+use Rattle.rule_intersect.specs.inner.Pairs.{join_all}
 use Rattle.rule_intersect.proofs.joining.join_rows.Given as goal
 
 abbrev pub invariant-loop-row : goal.invariant-loop-row

@@ -1,5 +1,5 @@
 use Rattle.std.proofs.Common.{◌≡◌, ◌++◌, drop}
-use Rattle.rule_intersect.specs.Joining.{join_one}
+use Rattle.rule_intersect.specs.inner.Pairs.{join_one}
 use Rattle.rule_intersect.proofs.joining.push_joined.Given as goal
 
 abbrev pub invariant-loop-other : goal.invariant-loop-other

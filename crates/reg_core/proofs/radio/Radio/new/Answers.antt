@@ -1,8 +1,8 @@
 use Rattle.std.proofs.Common.{[], ◌∷◌, None, arith, refl, sym, subst, map, ◌∙◌}
 use Rattle.dfs_states.specs.Calls.{Advance}
-use Rattle.dfs_states.specs.StandsFor.{StandsFor as BookStandsFor}
+use Rattle.dfs_states.specs.StandsFor.{BookStandsFor}
 use Rattle.rule_intersect.specs.Tables.{IsTableOf}
-use Rattle.reg_core.specs.Lists.{applies_by}
+use Rattle.reg_core.specs.inner.Lists.{applies_by}
 use Rattle.reg_core.proofs.NewRadios.{added}
 use Rattle.reg_core.proofs.radio.Radio.new.Goals as goal
 

@@ -1,5 +1,5 @@
 use Rattle.std.proofs.Common.{map, sym, subst, ◌∙◌}
-use Rattle.dfs_states.specs.StandsFor.{StandsFor as BookStandsFor}
+use Rattle.dfs_states.specs.StandsFor.{BookStandsFor}
 use Rattle.reg_core.proofs.KeptOn.{calls_of-moved, calls_of-unmoved, retuned}
 use Rattle.reg_core.proofs.radio.Radio.retune.Goals as goal
 

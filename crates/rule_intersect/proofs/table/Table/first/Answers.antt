@@ -8,5 +8,5 @@ returns-in_err-rows-clause-table c =
 
 pub returns-clause-table : goal.returns-clause-table
 returns-clause-table c =
-    let rows = rw c.as_slice.ensures at c.in_ok-rows.ensures.rows in
+    let rows = rw c.as_slice.ensures.items at c.in_ok-rows.ensures.rows in
     IsTableOf-first c.args.d.now c.in_ok-rows.rows.items c.requires.valid c.requires.few rows

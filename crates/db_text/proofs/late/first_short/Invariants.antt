@@ -1,7 +1,0 @@
-use Rattle.std.proofs.Common.{take}
-use Rattle.freq_range.specs.Valid.{IsValidWmm}
-use Rattle.db_text.proofs.LeastLines.{IsLeast}
-use Rattle.db_text.proofs.late.first_short.Given as goal
-
-abbrev pub invariant-loop-block : goal.invariant-loop-block
-invariant-loop-block l = IsLeast (λ b. IsValidWmm b.wmm → ⊥) (λ b. IsValidWmm b.wmm) (λ b. b.line) (take l.block-index l.blocks) l.least

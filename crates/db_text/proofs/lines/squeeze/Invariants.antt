@@ -1,7 +1,0 @@
-use Rattle.std.proofs.Common.{◌≡◌, ◌++◌, drop}
-use Rattle.db_text.specs.Lines.{bare, solid}
-use Rattle.db_text.proofs.lines.squeeze.Given as goal
-
--- what was kept, and what is left without its blanks, is what counts
-abbrev pub invariant-loop-byte : goal.invariant-loop-byte
-invariant-loop-byte l = l.buffer.items ++ solid (drop l.byte-index l.text) ≡ bare l.line

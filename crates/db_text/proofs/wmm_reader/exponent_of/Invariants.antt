@@ -1,5 +1,0 @@
-use Rattle.std.proofs.Common.{◌+◌, ◌^◌, ◌<◌, ◌≢◌, ℕ}
-use Rattle.db_text.proofs.wmm_reader.exponent_of.Given as goal
-
-abbrev pub invariant-loop-exponent : goal.invariant-loop-exponent
-invariant-loop-exponent l = (k : ℕ) → k < l.exponent → l.window + 1 ≢ 2 ^ k

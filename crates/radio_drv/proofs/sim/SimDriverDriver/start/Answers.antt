@@ -1,0 +1,5 @@
+use Rattle.std.proofs.Common.{rules}
+use Rattle.radio_drv.proofs.sim.SimDriverDriver.start.Goals as goal
+
+pub returns-clause-air : goal.returns-clause-air
+returns-clause-air c = search rules

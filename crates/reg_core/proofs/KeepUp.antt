@@ -1,0 +1,168 @@
+-- What a step leaves of the drivers.
+use Rattle.std.proofs.Common.{◌≡◌, ◌==◌, ◌<◌, ℕ, true, List, [], Contains, Option, Some, None, IsSomeAnd, length, le_refl, refl, sym, ap, subst, ◌∙◌, ◌∷◌, inl, inr}
+use Rattle.std.proofs.lemmas.Bool.{cases_eq}
+use Rattle.std.specs.Option.{option_map}
+use Rattle.rule_tables.specs.declared.domain.Domain.{Domain}
+use Rattle.chan_def.specs.declared.definition.ChanDef.{ChanDef}
+use Rattle.chan_def.specs.declared.kind.Kind.{Kind}
+use Rattle.radio_drv.specs.Air.{started as put_on_air, stopped as taken_off}
+use Rattle.radio_drv.specs.Seen.{Seen}
+use Rattle.radio_drv.specs.declared.on_air.CheckTold.{CheckTold}
+use Rattle.radio_drv.specs.declared.on_air.OnAir.{OnAir}
+use Rattle.radio_drv.proofs.Once.{nothing_once}
+use Rattle.reg_journal.specs.Due.{EachMayFollow}
+use Rattle.reg_journal.specs.Facts.{Fact, Journal, started, stopped}
+use Rattle.reg_journal.specs.OnAir.{entry, on_air_of}
+use Rattle.reg_journal.specs.Present.{Iface, ifaces_of, named}
+use Rattle.reg_journal.specs.declared.reply.Reply.{Reply}
+use Rattle.reg_journal.specs.declared.request.Request.{Request}
+use Rattle.reg_journal.specs.declared.request.Request.TheVariants.{Start, Check}
+use Rattle.reg_core.specs.DriverRows.{AllGoOn, AreDriven, Follows, GoesOn, HasFailed, HasOnAir, HasRisen, IsDriven, driver_at, told_after}
+use Rattle.reg_core.specs.Told.{DriverFails, OneGoes, DriverTakes}
+use Rattle.reg_core.proofs.AirEntries.{both, leaves_air}
+use Rattle.reg_core.proofs.Driven.{driven_at, driven_left, driven_started, driven_stopped, follows_started, follows_stopped}
+use Rattle.reg_core.proofs.Following.{follows_at, follows_left, other_driver}
+
+-- The drivers follow to the next journal and have on air what operates there, where they did, and each goes on.
+pub record KeepUp (J next : Journal) (q : Request) (reply : Reply) (row row' : List (Option Seen)) : Type 0 where
+  pub follows : Follows J row → Follows next row'
+  pub driven : AreDriven J row → AreDriven next row'
+  pub drivers : AllGoOn J q reply row row'
+
+-- ---- each goes on
+
+-- the request begins no check
+abbrev pub BeginsNothing : Journal → Request → Reply → Type 0
+BeginsNothing J q reply = (r : ℕ) (before : Option CheckTold) → told_after J q reply r before ≡ before
+
+-- only a request for a check begins one
+pub begins_nothing : (J : Journal) (q : Request) (reply : Reply) → ((name : List ℕ) (c : ChanDef) → q ≡ Check name c → ⊥) → BeginsNothing J q reply
+begins_nothing J (Check name c) reply other r before = absurd (other name c refl)
+begins_nothing J q reply other r before = refl
+
+-- a driver that hears nothing
+same_goes_on : (J : Journal) (q : Request) (reply : Reply) (r : ℕ) (place : Option Seen) (s' : Seen) → BeginsNothing J q reply → place ≡ Some s'
+    → IsSomeAnd place (λ s. GoesOn J q reply r s s')
+same_goes_on J q reply r place s' begins there =
+    subst (λ o. IsSomeAnd o (λ s. GoesOn J q reply r s s')) (sym there)
+    (record { told = sym (begins r s'.told); later = le_refl s'.count; steady = refl; never = λ steady. refl })
+
+-- a driver that is told something other than a check
+told_goes_on : (J : Journal) (q : Request) (reply : Reply) (r : ℕ) (change : List OnAir → List OnAir) (place place' : Option Seen) (s' : Seen)
+    → BeginsNothing J q reply → DriverTakes change place place' → place' ≡ Some s' → IsSomeAnd place (λ s. GoesOn J q reply r s s')
+told_goes_on J q reply r change place place' s' begins takes there = by place (subst (λ o. DriverTakes change place o) there takes)
+  where
+    by : (place : Option Seen) → DriverTakes change place (Some s') → IsSomeAnd place (λ s. GoesOn J q reply r s s')
+    by None takes = absurd takes
+    by (Some s) takes = record {
+      told = (takes.on).told ∙ sym (begins r s.told);
+      later = (takes.on).later;
+      steady = (takes.on).steady;
+      never = (takes.on).never;
+    }
+
+all_go_on : (J : Journal) (q : Request) (reply : Reply) (radio : ℕ) (change : List OnAir → List OnAir) (row row' : List (Option Seen))
+    → BeginsNothing J q reply → OneGoes radio (DriverTakes change) row row' → AllGoOn J q reply row row'
+all_go_on J q reply radio change row row' begins goes r s' there = elim (cases_eq r radio) [
+  | inl same ↦ told_goes_on J q reply r change (driver_at row r) (driver_at row' r) s' begins
+      (subst (λ n. DriverTakes change (driver_at row n) (driver_at row' n)) (sym same) goes.went) there
+  | inr other ↦ same_goes_on J q reply r (driver_at row r) s' begins (sym (other_driver radio r (DriverTakes change) row row' goes other) ∙ there)
+]
+
+-- ---- where no driver is told anything
+
+-- a request that is refused
+pub drivers_at_refusal : (J : Journal) (q : Request) (reply : Reply) (row : List (Option Seen)) → BeginsNothing J q reply → KeepUp J J q reply row row
+drivers_at_refusal J q reply row begins = record {
+  follows = λ follows. follows;
+  driven = λ driven. driven;
+  drivers = λ r s' there. same_goes_on J q reply r (driver_at row r) s' begins there;
+}
+
+-- a fact that leaves what is on air
+pub drivers_at_rest : (db : List Domain) (J : Journal) (f : Fact) (q : Request) (reply : Reply) (row : List (Option Seen))
+    → EachMayFollow db (f ∷ J) → leaves_air f ≡ true → BeginsNothing J q reply → KeepUp J (f ∷ J) q reply row row
+drivers_at_rest db J f q reply row due leaves begins = record {
+  follows = follows_left db f J row due leaves;
+  driven = driven_left db f J row due leaves;
+  drivers = λ r s' there. same_goes_on J q reply r (driver_at row r) s' begins there;
+}
+
+-- ---- where one is told
+
+-- a start of the interface, by the numbers of its radio and itself
+pub drivers_at_start : (db : List Domain) (J : Journal) (x : Iface) (chan : ChanDef) (power : ℕ) (q : Request) (reply : Reply) (row row' : List (Option Seen))
+    (radio index : ℕ) → radio ≡ x.radio → index ≡ x.index → EachMayFollow db (started x.index chan power ∷ J) → Contains (ifaces_of J) x → BeginsNothing J q reply
+    → OneGoes radio (DriverTakes (put_on_air (entry index chan power))) row row' → KeepUp J (started x.index chan power ∷ J) q reply row row'
+drivers_at_start db J x chan power q reply row row' radio index its_radio its_index due there begins goes =
+    let told : OneGoes x.radio (DriverTakes (put_on_air (entry x.index chan power))) row row' =
+    subst (λ r. OneGoes r (DriverTakes (put_on_air (entry x.index chan power))) row row') its_radio
+    (subst (λ i. OneGoes radio (DriverTakes (put_on_air (entry i chan power))) row row') its_index goes) in
+    record {
+      follows = follows_started db J x chan power row row' due.1 there told;
+      driven = driven_started db J x chan power row row' due there told;
+      drivers = all_go_on J q reply x.radio (put_on_air (entry x.index chan power)) row row' begins told;
+    }
+
+-- a stop
+pub drivers_at_stop : (db : List Domain) (J : Journal) (x : Iface) (q : Request) (reply : Reply) (row row' : List (Option Seen)) (radio index : ℕ)
+    → radio ≡ x.radio → index ≡ x.index → EachMayFollow db (stopped x.index ∷ J) → Contains (ifaces_of J) x → BeginsNothing J q reply
+    → OneGoes radio (DriverTakes (taken_off index)) row row' → KeepUp J (stopped x.index ∷ J) q reply row row'
+drivers_at_stop db J x q reply row row' radio index its_radio its_index due there begins goes =
+    let told : OneGoes x.radio (DriverTakes (taken_off x.index)) row row' =
+    subst (λ r. OneGoes r (DriverTakes (taken_off x.index)) row row') its_radio
+    (subst (λ i. OneGoes radio (DriverTakes (taken_off i)) row row') its_index goes) in
+    record {
+      follows = follows_stopped db J x row row' due.1 there told;
+      driven = driven_stopped db J x row row' due there told;
+      drivers = all_go_on J q reply x.radio (taken_off x.index) row row' begins told;
+    }
+
+-- ---- where one fails
+
+-- it keeps what it has on air
+fails_takes : (place place' : Option Seen) → DriverFails place place' → DriverTakes (λ air. air) place place'
+fails_takes (Some s) (Some s') fails = record { air = fails.air; on = fails.on }
+fails_takes (Some s) None fails = absurd fails
+fails_takes None (Some s') fails = absurd fails
+fails_takes None None fails = absurd fails
+
+fails_risen : (place place' : Option Seen) → DriverFails place place' → HasRisen place place'
+fails_risen (Some s) (Some s') fails = (fails.unsteady, fails.rose)
+fails_risen (Some s) None fails = absurd fails
+fails_risen None (Some s') fails = absurd fails
+fails_risen None None fails = absurd fails
+
+-- a start that is refused where the driver fails
+pub drivers_at_failure : (db : List Domain) (J : Journal) (x : Iface) (name : List ℕ) (kind : Kind) (c : ChanDef) (reply : Reply) (row row' : List (Option Seen))
+    (radio : ℕ) → radio ≡ x.radio → EachMayFollow db J → named J name ≡ Some x → OneGoes radio DriverFails row row'
+    → KeepUp J J (Start name kind c) reply row row' × HasFailed J (Start name kind c) row row'
+drivers_at_failure db J x name kind c reply row row' radio its_radio due is goes =
+    let stays : OneGoes radio (DriverTakes (λ air. air)) row row' =
+    record { went = fails_takes (driver_at row radio) (driver_at row' radio) goes.went; rest = goes.rest } in (
+      record {
+        follows = follows_at J J radio (λ air. air) row row' (λ r. refl) (λ r. both (radio == r) (on_air_of J r)) stays;
+        driven = driven_at db J J radio (λ air. air) row row' due due (λ r. refl)
+            (record { moved = λ i o. o; on_list = λ air i. refl; of_fact = λ i. refl; keeps = λ air has. has.is_air }) (λ r i other. refl) stays;
+        drivers = all_go_on J (Start name kind c) reply radio (λ air. air) row row' (λ r before. refl) stays;
+      },
+      rw (is, ← its_radio) (fails_risen (driver_at row radio) (driver_at row' radio) goes.went),
+    )
+
+-- ---- at first
+
+-- eight drivers with nothing on air
+pub drivers_at_first : (row : List (Option Seen)) → length row ≡ 8 → ((r : ℕ) → r < 8 → IsSomeAnd (driver_at row r) (λ s. s.air ≡ []))
+    → Follows [] row × AreDriven [] row
+drivers_at_first row eight silent = (
+  record { eight = eight; each = λ r below. followed (driver_at row r) (silent r below) },
+  record { eight = eight; each = λ r below. driven r (driver_at row r) (silent r below) },
+)
+  where
+    followed : (place : Option Seen) → IsSomeAnd place (λ s. s.air ≡ []) → option_map (λ (s : Seen). s.air) place ≡ Some []
+    followed None is = absurd is
+    followed (Some s) is = ap (λ air. Some air) is
+
+    driven : (r : ℕ) (place : Option Seen) → IsSomeAnd place (λ s. s.air ≡ []) → IsDriven [] r place
+    driven r None is = absurd is
+    driven r (Some s) is = (refl, subst (λ air. HasOnAir [] r air) (sym is) (record { is_air = nothing_once; each = λ i. refl }))

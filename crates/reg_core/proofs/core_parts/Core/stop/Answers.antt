@@ -1,8 +1,0 @@
-use Rattle.reg_core.proofs.StartsDone.{stops_done}
-use Rattle.reg_core.proofs.core_parts.Core.stop.Goals as goal
-
-pub returns : goal.returns
-returns g c = record {
-  stop = λ db J s.
-      stops_done db J c.args.name.now c.args.kind c.in_ok-port.port c.args.self.now c.set_operation.new.self _ _ s (c.in_ok-port.ensures.stop db J s) c.set_operation.ensures c.stop_at.ensures.told;
-}

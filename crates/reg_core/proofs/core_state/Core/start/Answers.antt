@@ -1,0 +1,21 @@
+use Rattle.reg_core.proofs.StartsDone.{falls_done, start_has_room, starts_done}
+use Rattle.reg_core.proofs.core_state.Core.start.Goals as goal
+
+pub start-requires-clause-room : goal.start-requires-clause-room
+start-requires-clause-room g c =
+    let ready = c.requires.ready in
+    start_has_room ready.db ready.journal c.args.name.now c.args.kind c.args.chan.now c.in-Ok.found.0 c.in-Ok.found.1 _ (ready.stands).due ready.driven
+    (c.in-Ok.ensures.start ready.db ready.journal ready.stands)
+
+pub returns-in-Ok-start : goal.returns-in-Ok-start
+returns-in-Ok-start g c = record {
+  start = λ db J s.
+      starts_done db J c.args.name.now c.args.kind c.args.chan.now c.in-Ok.found.0 c.in-Ok.found.1 c.args.self.now c.set_operation.new.interfaces _ _ s
+      (c.in-Ok.ensures.start db J s) c.set_operation.ensures.operation c.in-Ok-start.ensures.told;
+}
+
+pub returns-in-Err-start : goal.returns-in-Err-start
+returns-in-Err-start g c = record {
+  start = λ db J s.
+      falls_done db J c.args.name.now c.args.kind c.args.chan.now c.in-Ok.found.0 c.in-Ok.found.1 c.args.self.now _ _ (c.in-Ok.ensures.start db J s) c.in-Err-start.ensures.told;
+}

@@ -1,0 +1,8 @@
+use Rattle.reg_core.proofs.StartsDone.{stops_done}
+use Rattle.reg_core.proofs.core_state.Core.stop.Goals as goal
+
+pub returns : goal.returns
+returns g c = record {
+  stop = λ db J s.
+      stops_done db J c.args.name.now c.args.kind c.in_ok-interface.interface c.args.self.now c.set_operation.new.interfaces _ _ s (c.in_ok-interface.ensures.stop db J s) c.set_operation.ensures.operation c.stop.ensures.told;
+}

@@ -1,0 +1,25 @@
+//! What the core keeps.
+
+use crate::domains::Domains;
+use crate::interface::InterfaceList;
+use crate::radio::RadioPlace;
+use reg_hints::Hints;
+use rule_intersect::Table;
+
+/// What is kept of all that was accepted.
+#[derive(Drop)]
+pub struct Core {
+    pub(crate) domains: Domains,
+    /// The present moment, in ms.
+    pub(crate) clock: u64,
+    pub(crate) indoor: bool,
+    pub(crate) hints: Hints,
+    /// How many interfaces were made.
+    pub(crate) made: u32,
+    /// The rows of the global list.
+    pub(crate) global: Table,
+    /// By number.
+    pub(crate) radios: [RadioPlace; 8],
+    /// In order of creation.
+    pub(crate) interfaces: InterfaceList,
+}
