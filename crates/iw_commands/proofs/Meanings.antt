@@ -3,8 +3,8 @@ use Rattle.std.proofs.Common.{◌≡◌, ℕ, List, [], ◌∷◌, true, false, 
 use Rattle.std.proofs.lemmas.Bool.{eqb-true}
 use Rattle.std.proofs.lemmas.Option.{same_Some, some_pair_parts}
 use Rattle.reg_journal.specs.declared.request.Request.{Request}
-use Rattle.iw_commands.specs.Lines.{AreSilent, Asks, AsksNothing, IsScriptLine, Says, SaysInWords}
-use Rattle.iw_commands.specs.inner.Reading.{begins_comment, next_word, request_in, request_of}
+use Rattle.iw_commands.specs.Lines.{AreSilent, Asks, AsksNothing, IsScriptLine, Says}
+use Rattle.iw_commands.specs.inner.Reading.{SaysInWords, begins_comment, next_word, request_in, request_of}
 use Rattle.iw_commands.specs.Spelling.{Spells}
 use Rattle.iw_commands.specs.Words.{words_of}
 use Rattle.iw_commands.specs.declared.fault.LineFault.{LineFault}

@@ -1,5 +1,6 @@
 -- What a line asks.
 use Rattle.std.specs.Prelude.{◌≡◌, ℕ, ◌≤◌, ◌⊎◌, List, [], ◌∷◌, ◌++◌, length, All, Option, Some, None, Result, Ok, Err, codes}
+use Rattle.reg_base.specs.declared.limits.TheConstants.{MOST_LINE_BYTES}
 use Rattle.reg_journal.specs.declared.request.Request.{Request}
 use Rattle.iw_commands.specs.Words.{words_of}
 use Rattle.iw_commands.specs.Spelling.{Spells}
@@ -10,9 +11,9 @@ use Rattle.iw_commands.specs.declared.fault.LineFault.TheVariants.{NotBuilt}
 abbrev pub IsLineByte : ℕ → Type 0
 IsLineByte b = ((32 ≤ b) × (b ≤ 126)) ⊎ (b ≡ 9)
 
--- a line may have at most 4,096 bytes, each of that kind
+-- a line may have no more bytes than that, each of that kind
 pub record IsScriptLine (line : List ℕ) : Type 0 where
-  pub short : length line ≤ 4096
+  pub short : length line ≤ MOST_LINE_BYTES
   pub each : All IsLineByte line
 
 -- there is no word, or the first one begins a comment
@@ -35,9 +36,3 @@ abbrev pub Says : List ℕ → Result (Option Request) LineFault → Type 0
 Says line (Ok (Some q)) = Asks line q
 Says line (Ok None) = AsksNothing line
 Says line (Err NotBuilt) = (AsksNothing line → ⊥) × ((q : Request) → Asks line q → ⊥)
-
--- the same, of the words of a line that is permitted
-abbrev pub SaysInWords : List (List ℕ) → Result (Option Request) LineFault → Type 0
-SaysInWords words (Ok (Some q)) = Spells words q
-SaysInWords words (Ok None) = AreSilent words
-SaysInWords words (Err NotBuilt) = (AreSilent words → ⊥) × ((q : Request) → Spells words q → ⊥)

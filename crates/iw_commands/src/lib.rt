@@ -17,6 +17,3 @@ pub use laws::one_meaning;
 pub use line_reader::read_line;
 pub use reply_printer::{put_reply, reply_text};
 pub use script::Lines;
-
-#[cfg(test)]
-mod tests;

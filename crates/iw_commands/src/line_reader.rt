@@ -3,16 +3,14 @@
 ghost use Rattle.std.specs.Prelude.{◌≡◌, ◌↔◌, IfOk, IfSome, IsTrue};
 ghost use Rattle.reg_journal.specs.Replies.{IsAskable};
 ghost use Rattle.reg_journal.specs.declared.request.Request.{Request};
-ghost use Rattle.iw_commands.specs.Lines.{Asks, AsksNothing, IsLineByte, IsScriptLine, Says, SaysInWords};
-ghost use Rattle.iw_commands.specs.inner.Reading.{begins_comment};
+ghost use Rattle.iw_commands.specs.Lines.{Asks, AsksNothing, IsLineByte, IsScriptLine, Says};
+ghost use Rattle.iw_commands.specs.inner.Reading.{begins_comment, SaysInWords};
 
 use crate::fault::LineFault;
 use crate::forms::request_of;
 use crate::words::Words;
+use reg_base::MOST_LINE_BYTES;
 use reg_journal::Request;
-
-/// The most bytes that a line may have.
-const MOST_BYTES: usize = 4096;
 
 /// What the line asks: `None` for a blank line or a comment. `NotBuilt` comes exactly where it asks
 /// no request and isn't one of these two.
@@ -33,7 +31,7 @@ pub fn read_line(line: &[u8]) -> Result<Option<Request>, LineFault>
 fn is_permitted(line: &[u8]) -> bool
     ensures { IsTrue result ↔ IsScriptLine line.now }
 {
-    line.len() <= MOST_BYTES && line.iter().all(|byte| is_line_byte(*byte))
+    line.len() <= MOST_LINE_BYTES && line.iter().all(|byte| is_line_byte(*byte))
 }
 
 /// Whether the byte is a visible one of ASCII, a space or a tab.

@@ -1,6 +1,6 @@
 -- How the words of a line are read from left to right. This is the program's steps again: only clauses of private functions
 -- cite it, and proofs/ tie it to what Spelling says.
-use Rattle.std.specs.Prelude.{◌≡◌, ℕ, ◌^◌, ◌<◌, ◌≤◌, ◌==◌, ◌&&◌, ◌||◌, nat_eq, nat_le, nat_lt, not, Bool, true, false, List, [], ◌∷◌, length, take, drop, Option, Some, None, codes, slice_index, if◌then◌else◌}
+use Rattle.std.specs.Prelude.{◌≡◌, ℕ, ◌^◌, ◌<◌, ◌≤◌, ◌==◌, ◌&&◌, ◌||◌, nat_eq, nat_le, nat_lt, not, Bool, true, false, List, [], ◌∷◌, length, take, drop, Option, Some, None, Result, Ok, Err, codes, slice_index, if◌then◌else◌}
 use Rattle.std.specs.List.{list_all}
 use Rattle.std.specs.Char.{is_ascii_digit}
 use Rattle.std.specs.Str.{all_ascii_digits}
@@ -14,8 +14,19 @@ use Rattle.chan_flags.specs.Profiles.{Abilities, abilities, has_some, is_width}
 use Rattle.chan_flags.specs.declared.profile.Bands.{Bands}
 use Rattle.reg_journal.specs.declared.request.Request.{Request}
 use Rattle.reg_journal.specs.declared.request.Request.TheVariants.{At, RadioAdd, UserHint, IfaceAdd, Start, Stop}
+use Rattle.iw_commands.specs.Lines.{AreSilent}
+use Rattle.iw_commands.specs.Spelling.{noht_at, Spells}
 use Rattle.iw_commands.specs.Words.{is_line_blank, is_empty}
-use Rattle.iw_commands.specs.Spelling.{noht_at}
+use Rattle.iw_commands.specs.declared.fault.LineFault.{LineFault}
+use Rattle.iw_commands.specs.declared.fault.LineFault.TheVariants.{NotBuilt}
+
+-- ---- lines
+
+-- what the words of a line that is permitted say
+abbrev pub SaysInWords : List (List ℕ) → Result (Option Request) LineFault → Type 0
+SaysInWords words (Ok (Some q)) = Spells words q
+SaysInWords words (Ok None) = AreSilent words
+SaysInWords words (Err NotBuilt) = (AreSilent words → ⊥) × ((q : Request) → Spells words q → ⊥)
 
 -- ---- words
 

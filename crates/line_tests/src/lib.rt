@@ -1,0 +1,7 @@
+//! Tests of lines of scripts and of the texts of replies, through the public calls of iw_commands.
+#![tactic(auto)]
+
+#[cfg(test)]
+mod lines;
+#[cfg(test)]
+mod texts;

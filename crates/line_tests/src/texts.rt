@@ -1,0 +1,105 @@
+//! Replies and faults of lines with their texts, written out by hand.
+
+ghost use Rattle.iw_commands.specs.Printed.{IsPlain};
+
+use iw_commands::{LineFault, fault_text, put_fault, put_reply, reply_text};
+use radio_drv::Name;
+use reg_base::Bytes;
+use reg_hints::{RadioNo, Treatment};
+use reg_journal::{Answer, Effect, Effects, HintAnswer, Refusal, Reply};
+use rule_tables::Alpha2;
+use std::alloc::Global;
+use std::process::Abort;
+use std::test::Fail;
+
+const US: Alpha2 = Alpha2 { a: b'U', b: b'S' };
+
+fn radio(rt: &impl Abort, n: u32) -> RadioNo {
+    RadioNo::new(n).expect(rt, "a radio")
+}
+
+fn name(rt: &impl Abort, bytes: &[u8]) -> Name {
+    Name::new(bytes).expect(rt, "a name")
+}
+
+/// A reply without effects.
+fn plain(answer: Answer) -> Reply
+    ensures { IsPlain result }
+{
+    Reply::Plain {
+        answer,
+        effects: Effects::new(),
+    }
+}
+
+/// The reply has this text.
+fn says(rt: &impl Abort, alloc: Global, answer: Answer, wanted: &[u8]) {
+    let reply = plain(answer);
+    match reply_text(alloc, &reply) {
+        Ok(text) => assert!(rt; text.as_slice() == wanted),
+        Err(fault) => assert!(rt; false, "{fault:?}"),
+    }
+}
+
+#[test]
+fn texts_of_answers(rt: HostRuntime) {
+    let answers: [(Answer, &[u8]); 12] = [
+        (Answer::Ok, b"ok\n"),
+        (
+            Answer::Hint(HintAnswer::Treated(Treatment::Already)),
+            b"hint already set\n",
+        ),
+        (Answer::Hint(HintAnswer::Own), b"hint own\n"),
+        (Answer::Started(2300), b"started 2300\n"),
+        (Answer::Checking(60_000), b"checking 60000\n"),
+        (
+            Answer::Refused(Refusal::MomentTooLarge(u64::MAX)),
+            b"refused: moment too large 18446744073709551615\n",
+        ),
+        (
+            Answer::Refused(Refusal::NoRadio(radio(&rt, 5))),
+            b"refused: no radio phy5\n",
+        ),
+        (
+            Answer::Refused(Refusal::NameTaken(name(&rt, b"wlan0"))),
+            b"refused: name taken wlan0\n",
+        ),
+        (
+            Answer::Refused(Refusal::NoIr(5_180_000)),
+            b"refused: NO-IR 5180\n",
+        ),
+        (
+            Answer::Refused(Refusal::NoCountry(US)),
+            b"refused: no country US\n",
+        ),
+        (
+            Answer::Refused(Refusal::ElementNotLetters),
+            b"refused: element not letters\n",
+        ),
+        (Answer::Refused(Refusal::NotBuilt), b"refused: not built\n"),
+    ];
+    for (answer, wanted) in answers {
+        says(&rt, rt.alloc(), answer, wanted);
+    }
+}
+
+#[test]
+fn texts_of_effects_and_faults(rt: HostRuntime) -> Result<(), Fail> {
+    let mut effects = Effects::new();
+    assert!(rt; effects.push(Effect::Stopped(name(&rt, b"ap0"))));
+    assert!(rt; effects.push(Effect::Dropped(name(&rt, b"ap1"))));
+    assert!(rt; effects.push(Effect::Power(name(&rt, b"sta0"), 0)));
+    let reply = Reply::Plain {
+        answer: Answer::Hint(HintAnswer::Treated(Treatment::Replace)),
+        effects,
+    };
+    let mut text = Bytes::new(rt.alloc());
+    put_fault(&mut text, &LineFault::NotBuilt)?;
+    put_reply(&mut text, &reply)?;
+    let wanted =
+        b"line fault: not built\nhint replaced\n\tstopped ap0\n\tdropped ap1\n\tpower sta0 0\n";
+    assert!(rt; text.as_slice() == wanted.as_slice());
+    let fault = fault_text(rt.alloc(), &LineFault::NotBuilt)?;
+    assert!(rt; fault.as_slice() == b"line fault: not built\n".as_slice());
+    Ok(())
+}
