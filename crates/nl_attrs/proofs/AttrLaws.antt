@@ -95,8 +95,9 @@ begins_before payload (a ∷ attrs) rest joined each begins =
     let P : List ℕ → Type 0 = BeginsAttr in
     subst P (sym (joined ∙ append_assoc (attr_bytes a) (attrs_bytes attrs) rest)) (begins-attr a (attrs_bytes attrs ++ rest) (All-head IsAttr a attrs each))
 
-pub memory_wanted : (payload : List ℕ) (attrs : List Attr) (rest : List ℕ) → payload ≡ attrs_bytes attrs ++ rest → All IsAttr attrs → BeginsAttr rest → (0 < length payload) × (IsBroken payload → ⊥)
-memory_wanted payload attrs rest joined each begins =
+pub memory_wanted : (payload : List ℕ) (attrs : List Attr) (a : Attr) (rest more : List ℕ) → payload ≡ attrs_bytes attrs ++ rest → All IsAttr attrs → IsAttr a → rest ≡ attr_bytes a ++ more → (0 < length payload) × (IsBroken payload → ⊥)
+memory_wanted payload attrs a rest more joined each is parts =
+    let begins : BeginsAttr rest = let P : List ℕ → Type 0 = BeginsAttr in subst P (sym parts) (begins-attr a more is) in
     let front = begins_before payload attrs rest joined each begins in
     let header = front.header in
     (omega arith, never_both payload front)

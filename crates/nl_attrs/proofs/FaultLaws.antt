@@ -30,7 +30,7 @@ unfolding le16_at
 good_body (Generic family flags seq pid cmd version attrs) place fits family_high bad =
     elim bad [
       | inl reserved ↦ reserved.0 refl
-      | inr broken ↦ no_breach _ broken.1.0 attrs broken.1.1 fits.2 refl
+      | inr broken ↦ no_breach _ broken.1.0 attrs broken.1.1 fits.4 refl
     ]
 good_body (Error flags seq pid code head) place fits family_high bad = omega arith
 good_body (Done flags seq pid code) place fits family_high bad = omega arith

@@ -23,13 +23,13 @@ whole_found held n good four is within =
       within = within;
     }
 
-length_at-front : (held : List ℕ) (n : ℕ) → IsWhole held n → length_at (take n held) ≡ length_at held
+pub length_at-front : (held : List ℕ) (n : ℕ) → IsWhole held n → length_at (take n held) ≡ length_at held
 length_at-front held n whole =
     let long = whole.long in
     let within = whole.within in
     sym (u32_at-append (take n held) (drop n held) 0 (omega (arith, length-take n held))) ∙ ap (λ (b : List ℕ). le32_at b 0) (take-append-drop n held)
 
-type_at-front : (held : List ℕ) (n : ℕ) → IsWhole held n → type_at (take n held) ≡ type_at held
+pub type_at-front : (held : List ℕ) (n : ℕ) → IsWhole held n → type_at (take n held) ≡ type_at held
 type_at-front held n whole =
     let long = whole.long in
     let within = whole.within in

@@ -12,3 +12,6 @@ pub mod MsgApart
 pub mod MsgLaws
 pub mod FaultLaws
 pub mod StreamLaws
+pub mod Told
+pub mod Verdicts
+pub mod ByteLaws

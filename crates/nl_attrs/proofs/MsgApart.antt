@@ -80,7 +80,7 @@ generic_cells c v c' v' r s e = (cc, cc, cc)
 same_msg : (m n : Msg) → FitsBody m → FitsBody n → type_of m ≡ type_of n → header_flags m ≡ header_flags n → seq_of m ≡ seq_of n → pid_of m ≡ pid_of n → body_of m ≡ body_of n → m ≡ n
 same_msg (Generic family flags seq pid cmd version attrs) (Generic family' flags' seq' pid' cmd' version' attrs') fits fits' types flagses seqs pids bodies =
     let cells = generic_cells cmd version cmd' version' (attrs_bytes attrs) (attrs_bytes attrs') bodies in
-    let lists = one_list attrs attrs' fits.2 fits'.2 cells.2 in
+    let lists = one_list attrs attrs' fits.4 fits'.4 cells.2 in
     λ i. Generic (types i) (flagses i) (seqs i) (pids i) (cells.0 i) (cells.1 i) (lists i)
 same_msg (Generic family flags seq pid cmd version attrs) (Error flags' seq' pid' code head) fits fits' types flagses seqs pids bodies =
     let high = fits.0 in

@@ -2,7 +2,7 @@
 use Rattle.std.proofs.Common.{◌≡◌, ℕ, ◌+◌, ◌%◌, ◌≤◌, false, leb, List, [], ◌∷◌, ◌++◌, length, None, refl, sym, ap, ◌∙◌, arith}
 use Rattle.std.specs.Int.{w32, cast_unsigned}
 use Rattle.std.proofs.lemmas.Bool.{eq-eqb, ne_eqb, le-ltb, and_right}
-use Rattle.std.proofs.lemmas.List.{length-append, take_at, drop_at}
+use Rattle.std.proofs.lemmas.List.{append-nil, length-append, take_at, drop_at}
 use Rattle.nl_attrs.specs.Endian.{le32, le16_at, le32_at}
 use Rattle.nl_attrs.specs.Attributes.{attr_bytes, attrs_bytes}
 use Rattle.nl_attrs.specs.Faults.{length_fault, type_fault, length_at, type_at, body_at}
@@ -88,3 +88,10 @@ good-msg m r is =
 
 pub length-msg : (m : Msg) → IsMsg m → 20 ≤ length (spelled m)
 length-msg m is = let four = (body_words m is.body).0 in omega (arith, length-spelled m)
+
+pub words-msg : (m : Msg) → IsMsg m → length (spelled m) % 4 ≡ 0
+words-msg m is = let whole = (body_words m is.body).1 in omega (arith, length-spelled m)
+
+pub length_stated : (m : Msg) → IsMsg m → length_at (spelled m) ≡ length (spelled m)
+length_stated m is =
+    ap (λ (b : List ℕ). length_at b) (sym (append-nil (spelled m))) ∙ length_at-msg m [] is

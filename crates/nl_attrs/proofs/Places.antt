@@ -4,10 +4,22 @@ use Rattle.std.specs.Int.{w16, w32, to_le_bytes, from_le_bytes}
 use Rattle.std.proofs.lemmas.Bool.{cases_lt}
 use Rattle.std.proofs.lemmas.List.{length-take, length-drop, get_or-take, get_or-drop, get_or_past, take-append-drop, drop-drop, drop_at, drop-append-le, take-append-le}
 use Rattle.std.proofs.lemmas.Nat.{le_bytes_2, le_bytes_4, from_le_bytes-to_le_bytes_2, from_le_bytes-to_le_bytes_4}
-use Rattle.nl_attrs.specs.Endian.{le16, le32, le16_at, le32_at}
+use Rattle.std.proofs.lemmas.List.Elements.{All-get_or, All-from_get_or}
+use Rattle.nl_attrs.specs.Endian.{AreBytes, le16, le32, le16_at, le32_at}
 
 abbrev pub IsBytes : List ℕ → Type 0
 IsBytes bytes = (i : ℕ) → get_or bytes i 0 < 256
+
+-- the same two ways to say it
+pub bytes_at : (bytes : List ℕ) → AreBytes bytes → IsBytes bytes
+bytes_at bytes fits i =
+    elim (cases_lt i (length bytes)) [
+      | inl lt ↦ All-get_or (λ b. b < 256) bytes i 0 lt fits
+      | inr le ↦ rw (get_or_past bytes i 0 le) (omega arith)
+    ]
+
+pub bytes_from : (bytes : List ℕ) → IsBytes bytes → AreBytes bytes
+bytes_from bytes fits = All-from_get_or (λ b. b < 256) bytes 0 (λ i lt. fits i)
 
 pub IsBytes-drop : (n : ℕ) (bytes : List ℕ) → IsBytes bytes → IsBytes (drop n bytes)
 IsBytes-drop n bytes h i = rw get_or-drop (h (n + i))
@@ -33,6 +45,12 @@ pub le32-u32_at : (b : List ℕ) (i : ℕ) → IsBytes b → i + 4 ≤ length b 
 unfolding le32 le32_at
 le32-u32_at b i fits long =
     le_bytes_4 (take 4 (drop i b)) (from_le_bytes w32 (take 4 (drop i b))) (omega (arith, length-take 4 (drop i b), length-drop i b)) (IsBytes-part 4 i b fits) refl
+
+pub u16_at-lt : (b : List ℕ) (i : ℕ) → IsBytes b → le16_at b i < 2 ^ 16
+unfolding le16_at
+u16_at-lt b i fits =
+    let part = IsBytes-part 2 i b fits in
+    omega (arith, part 0, part 1)
 
 pub u32_at-lt : (b : List ℕ) (i : ℕ) → IsBytes b → le32_at b i < 2 ^ 32
 unfolding le32_at

@@ -5,13 +5,13 @@ use Rattle.std.specs.Int.{w32, cast_unsigned, cast_signed}
 use Rattle.std.proofs.Math.Facts.{sfits_to_z}
 use Rattle.std.proofs.lemmas.Int.{of_z-to_z}
 use Rattle.std.proofs.lemmas.List.{append-nil, drop_all, length-drop}
-use Rattle.nl_attrs.specs.Endian.{le16, le32, le16_at, le32_at}
+use Rattle.nl_attrs.specs.Endian.{AreBytes, le16, le32, le16_at, le32_at}
 use Rattle.nl_attrs.specs.Attributes.{IsAttr, attrs_bytes}
 use Rattle.nl_attrs.specs.Messages.{IsMsg, head_bytes, spelled}
 use Rattle.nl_attrs.specs.declared.attr.Attr.{Attr}
 use Rattle.nl_attrs.specs.declared.message.Msg.TheVariants.{Generic, Error, Done}
 use Rattle.nl_attrs.proofs.Lengths.{length-spelled}
-use Rattle.nl_attrs.proofs.Places.{IsBytes, le16-u16_at, le32-u32_at, u32_at-lt, cut}
+use Rattle.nl_attrs.proofs.Places.{IsBytes, bytes_at, le16-u16_at, le32-u32_at, u32_at-lt, cut}
 use Rattle.nl_attrs.proofs.Written.{done_bytes, error_bytes}
 
 five_parts : (b p q r s t b1 b2 b3 b4 b5 : List ℕ) → b ≡ p ++ b1 → b1 ≡ q ++ b2 → b2 ≡ r ++ b3 → b3 ≡ s ++ b4 → b4 ≡ t ++ b5 → b ≡ (p ++ (q ++ (r ++ (s ++ t)))) ++ b5
@@ -74,14 +74,14 @@ unfolding spelled
 generic_taken family flags seq pid body attrs long zero_field rest =
     ap (λ (x : List ℕ). head_bytes (16 + length x) family flags seq pid ++ x) (generic_parts body attrs long zero_field rest)
 
-pub read_generic_is : (family flags seq pid : ℕ) (body : List ℕ) (attrs : List Attr) → 4 ≤ length body → le16_at body 2 ≡ 0 → drop 4 body ≡ attrs_bytes attrs → 16 ≤ family → family < 2 ^ 16 → flags < 2 ^ 16 → seq < 2 ^ 32 → pid < 2 ^ 32 → All IsAttr attrs → length body ≤ 65520
+pub read_generic_is : (family flags seq pid : ℕ) (body : List ℕ) (attrs : List Attr) → AreBytes body → 4 ≤ length body → le16_at body 2 ≡ 0 → drop 4 body ≡ attrs_bytes attrs → 16 ≤ family → family < 2 ^ 16 → flags < 2 ^ 16 → seq < 2 ^ 32 → pid < 2 ^ 32 → All IsAttr attrs → length body ≤ 65520
     → IsMsg (Generic family flags seq pid (get_or body 0 0) (get_or body 1 0) attrs)
-read_generic_is family flags seq pid body attrs long zero_field rest family_high family_fits flags_fit seq_fits pid_fits each few =
+read_generic_is family flags seq pid body attrs fits long zero_field rest family_high family_fits flags_fit seq_fits pid_fits each few =
     record {
       flags = flags_fit;
       seq = seq_fits;
       pid = pid_fits;
-      body = (family_high, family_fits, each);
+      body = (family_high, family_fits, bytes_at body fits 0, bytes_at body fits 1, each);
       short =
           rw length-spelled (let same = ap length (generic_parts body attrs long zero_field rest) in omega (arith, same));
     }

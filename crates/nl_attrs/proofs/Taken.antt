@@ -6,7 +6,7 @@ use Rattle.nl_attrs.specs.Endian.{le16, le16_at}
 use Rattle.nl_attrs.specs.Attributes.{aligned, padding_length, padding_at, is_zero, bit14, kind_field, attr_bytes, attrs_bytes}
 use Rattle.nl_attrs.specs.inner.Reading.{BeginsAttr}
 use Rattle.nl_attrs.specs.declared.attr.Attr.{Attr}
-use Rattle.nl_attrs.proofs.Places.{IsBytes, IsBytes-part, le16-u16_at, cut}
+use Rattle.nl_attrs.proofs.Places.{IsBytes, le16-u16_at, cut}
 
 pub zeros_from_test : (bs : List ℕ) → is_zero bs ≡ true → bs ≡ replicate (length bs) 0
 zeros_from_test [] e = refl
@@ -50,12 +50,6 @@ kind_field_by field false fits bit set clear = let low = clear refl in omega ari
 -- a kind's two parts give it back, where bit 14 isn't set
 pub kind_field_of : (field : ℕ) → field < 2 ^ 16 → bit14 field ≡ 0 → kind_field (field % 16384) (leb 32768 field) ≡ field
 kind_field_of field fits bit = kind_field_by field (leb 32768 field) fits bit (leb-true 32768 field) (leb-false 32768 field)
-
-pub u16_at-lt : (b : List ℕ) (i : ℕ) → IsBytes b → le16_at b i < 2 ^ 16
-unfolding le16_at
-u16_at-lt b i fits =
-    let part = IsBytes-part 2 i b fits in
-    omega (arith, part 0, part 1)
 
 -- ---- a list that is read from its front
 

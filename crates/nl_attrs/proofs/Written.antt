@@ -4,10 +4,10 @@ use Rattle.std.specs.Prelude.{ℤ, FitsSigned}
 use Rattle.std.specs.Int.{w32, cast_unsigned}
 use Rattle.std.proofs.lemmas.List.{length-append, append-nil, take-append-drop, drop_more, take_more}
 use Rattle.std.proofs.lemmas.List.Concat.{flat_map-append}
-use Rattle.nl_attrs.specs.Endian.{le32}
+use Rattle.nl_attrs.specs.Endian.{AreBytes, le32}
 use Rattle.nl_attrs.specs.Attributes.{aligned, attr_bytes, attrs_bytes}
 use Rattle.nl_attrs.specs.Overlong.{IsShort, IsFirstLong, IsEncodeFault}
-use Rattle.nl_attrs.specs.inner.Reading.{IsSizeFault}
+use Rattle.nl_attrs.specs.inner.Reading.{HasBytes, IsSizeFault}
 use Rattle.nl_attrs.specs.Messages.{head_bytes, spelled, IsMsg}
 use Rattle.nl_attrs.specs.declared.attr.Attr.{Attr}
 use Rattle.nl_attrs.specs.declared.fault.EncodeFault.{EncodeFault}
@@ -53,24 +53,25 @@ done_is flags seq pid code flags_fit seq_fits pid_fits code_fits =
       short = rw (length-spelled, length-le32) (omega arith);
     }
 
-pub error_is : (flags seq pid : ℕ) (code : ℤ) (head : List ℕ) → flags < 2 ^ 16 → seq < 2 ^ 32 → pid < 2 ^ 32 → FitsSigned w32 code → length head ≡ 16 → IsMsg (Error flags seq pid code head)
-error_is flags seq pid code head flags_fit seq_fits pid_fits code_fits len =
+pub error_is : (flags seq pid : ℕ) (code : ℤ) (head : List ℕ) → flags < 2 ^ 16 → seq < 2 ^ 32 → pid < 2 ^ 32 → FitsSigned w32 code → length head ≡ 16 → AreBytes head → IsMsg (Error flags seq pid code head)
+error_is flags seq pid code head flags_fit seq_fits pid_fits code_fits len bytes =
     record {
       flags = flags_fit;
       seq = seq_fits;
       pid = pid_fits;
-      body = (code_fits, len);
+      body = (code_fits, len, bytes);
       short = rw (length-spelled, length-append, length-le32, len) (omega arith);
     }
 
-pub generic_is : (family flags seq pid cmd version : ℕ) (attrs : List Attr) → family < 2 ^ 16 → flags < 2 ^ 16 → seq < 2 ^ 32 → pid < 2 ^ 32 → (16 ≤ family) × All (λ a. a.kind < 16384) attrs → All IsShort attrs → 20 + length (attrs_bytes attrs) ≤ 65536
+pub generic_is : (family flags seq pid cmd version : ℕ) (attrs : List Attr) → family < 2 ^ 16 → flags < 2 ^ 16 → seq < 2 ^ 32 → pid < 2 ^ 32 → (16 ≤ family) × All (λ a. a.kind < 16384) attrs → cmd < 256 → version < 256 → All IsShort attrs → All HasBytes attrs → 20 + length (attrs_bytes attrs) ≤ 65536
     → IsMsg (Generic family flags seq pid cmd version attrs)
-generic_is family flags seq pid cmd version attrs family_fits flags_fit seq_fits pid_fits in_range short few =
+generic_is family flags seq pid cmd version attrs family_fits flags_fit seq_fits pid_fits in_range cmd_fits version_fits short bytes few =
     record {
       flags = flags_fit;
       seq = seq_fits;
       pid = pid_fits;
-      body = (in_range.0, family_fits, λ k d lt. record { kind = in_range.1 k d lt; short = short k d lt });
+      body =
+          (in_range.0, family_fits, cmd_fits, version_fits, λ k d lt. record { kind = in_range.1 k d lt; short = short k d lt; bytes = bytes k d lt });
       short = rw length-spelled (omega (arith, few));
     }
 

@@ -1,8 +1,9 @@
 -- Attributes, their one spelling, and where bytes aren't attributes.
 use Rattle.std.specs.Prelude.{◌≡◌, ℕ, ◌+◌, ◌-◌, ◌*◌, ◌/◌, ◌%◌, ◌<◌, ◌≤◌, ◌==◌, ◌⊎◌, Bool, true, false, List, ◌++◌, length, take, drop, replicate, All, Result, Ok, Err}
 use Rattle.std.specs.List.{flat_map, list_all}
-use Rattle.nl_attrs.specs.Endian.{le16, le16_at}
+use Rattle.nl_attrs.specs.Endian.{AreBytes, le16, le16_at}
 use Rattle.nl_attrs.specs.declared.attr.Attr.{Attr}
+use Rattle.nl_attrs.specs.declared.attr.AttrRef.{AttrRef}
 use Rattle.nl_attrs.specs.declared.fault.AttrsFault.{AttrsFault}
 use Rattle.nl_attrs.specs.declared.fault.AttrsFault.TheVariants as attrs_faults
 
@@ -10,6 +11,11 @@ use Rattle.nl_attrs.specs.declared.fault.AttrsFault.TheVariants as attrs_faults
 pub record IsAttr (a : Attr) : Type 0 where
   pub kind : a.kind < 16384
   pub short : length a.payload ≤ 65531
+  pub bytes : AreBytes a.payload
+
+-- the attribute that stands in bytes
+abbrev pub attr_in : AttrRef → Attr
+attr_in a = record { kind = a.kind; nested = a.nested; payload = a.payload.now }
 
 -- n rounded up to a multiple of 4
 abbrev pub aligned : ℕ → ℕ
@@ -63,6 +69,13 @@ pub record IsFirstBreach (bytes : List ℕ) (place : ℕ) : Type 0 where
   pub here : place ≡ length (attrs_bytes before)
   pub left : 0 < length rest
   pub broken : IsBroken rest
+
+-- the payload is attributes, or it has a first breach
+abbrev pub HasAttrs : List ℕ → Type 0
+HasAttrs payload = (attrs : List Attr) × All IsAttr attrs × (payload ≡ attrs_bytes attrs)
+
+abbrev pub HasBreach : List ℕ → Type 0
+HasBreach payload = (place : ℕ) × IsFirstBreach payload place
 
 -- why attributes can't be read; only one that stands there takes memory
 abbrev pub IsAttrsFault : List ℕ → AttrsFault → Type 0

@@ -1,13 +1,20 @@
 -- Numbers in bytes, the lowest byte first.
-use Rattle.std.specs.Prelude.{ℕ, List, take, drop}
-use Rattle.std.specs.Int.{w16, w32, to_le_bytes, from_le_bytes}
+use Rattle.std.specs.Prelude.{ℕ, ◌<◌, List, take, drop, All}
+use Rattle.std.specs.Int.{w16, w32, w64, to_le_bytes, from_le_bytes}
 
--- a number in two bytes, and in four
+-- each is below 256
+abbrev pub AreBytes : List ℕ → Type 0
+AreBytes bytes = All (λ b. b < 256) bytes
+
+-- a number in two bytes, in four, and in eight
 unfoldable pub le16 : ℕ → List ℕ
 le16 n = to_le_bytes w16 n
 
 unfoldable pub le32 : ℕ → List ℕ
 le32 n = to_le_bytes w32 n
+
+unfoldable pub le64 : ℕ → List ℕ
+le64 n = to_le_bytes w64 n
 
 -- the number in the two or four bytes from place i on
 unfoldable pub le16_at : List ℕ → ℕ → ℕ

@@ -2,7 +2,7 @@
 use Rattle.std.specs.Prelude.{◌≡◌, ℕ, ◌+◌, ◌<◌, ◌≤◌, ◌^◌, List, [], ◌∷◌, ◌++◌, length, All, FitsSigned}
 use Rattle.std.specs.Int.{w32, cast_unsigned}
 use Rattle.std.specs.List.{flat_map}
-use Rattle.nl_attrs.specs.Endian.{le16, le32}
+use Rattle.nl_attrs.specs.Endian.{AreBytes, le16, le32}
 use Rattle.nl_attrs.specs.Attributes.{IsAttr, attrs_bytes}
 use Rattle.nl_attrs.specs.declared.attr.Attr.{Attr}
 use Rattle.nl_attrs.specs.declared.message.Msg.{Msg}
@@ -60,8 +60,9 @@ IsInRange (Done flags seq pid code) = Unit {0}
 
 -- what fits its field in the body and the type
 abbrev pub FitsBody : Msg → Type 0
-FitsBody (Generic family flags seq pid cmd version attrs) = (16 ≤ family) × (family < 2 ^ 16) × All IsAttr attrs
-FitsBody (Error flags seq pid code head) = FitsSigned w32 code × (length head ≡ 16)
+FitsBody (Generic family flags seq pid cmd version attrs) =
+    (16 ≤ family) × (family < 2 ^ 16) × (cmd < 256) × (version < 256) × All IsAttr attrs
+FitsBody (Error flags seq pid code head) = FitsSigned w32 code × (length head ≡ 16) × AreBytes head
 FitsBody (Done flags seq pid code) = FitsSigned w32 code
 
 -- what has a spelling

@@ -13,6 +13,13 @@ use Rattle.nl_attrs.specs.declared.fault.NextFault.TheVariants.{Bad, OutOfMemory
 abbrev pub joined : List (List ℕ) → List ℕ
 joined pieces = flat_map (λ piece. piece) pieces
 
+-- a message stands at the front, or a fault
+abbrev pub HasMessage : List ℕ → Type 0
+HasMessage held = (m : Msg) × (rest : List ℕ) × IsMsg m × (held ≡ spelled m ++ rest)
+
+abbrev pub HasFault : List ℕ → Type 0
+HasFault held = (fault : AttrFault) × IsFault held fault
+
 -- The stream is the spellings of the messages, and a rest that is undecided or has the fault at its front.
 pub record AreMessages (stream : List ℕ) (messages : List Msg) (fault : Option AttrFault) : Type 0 where
   pub rest : List ℕ

@@ -16,6 +16,16 @@ pub struct Attr {
     pub payload: Bytes,
 }
 
+/// An attribute whose payload stands in bytes that are read.
+#[derive(Clone, Copy, Debug)]
+pub struct AttrRef<'a> {
+    /// What the attribute is, below 16,384.
+    pub kind: u16,
+    /// Whether the payload is a list of attributes (`NLA_F_NESTED`).
+    pub nested: bool,
+    pub payload: &'a [u8],
+}
+
 /// The bytes of an attribute's length and kind.
 pub const HEADER: usize = 4;
 

@@ -1,8 +1,10 @@
 //! Writes attributes.
 
-ghost use Rattle.std.specs.Prelude.{◌≡◌, ◌+◌, ◌-◌, ◌<◌, ◌≤◌, ◌^◌, ◌++◌, length, min, replicate, All, IfOk, IfErr, OnOk, OnErr, MatchOption};
+ghost use Rattle.std.specs.Prelude.{◌≡◌, ◌+◌, ◌-◌, ◌<◌, ◌≤◌, ◌^◌, ◌++◌, length, min, replicate, All, IfOk, IfErr, IfNone, OnOk, OnErr, MatchOption};
+ghost use Rattle.nl_attrs.specs.Endian.{AreBytes};
 ghost use Rattle.nl_attrs.specs.Attributes.{IsAttr, padding_length, kind_field, attr_bytes, attrs_bytes};
 ghost use Rattle.nl_attrs.specs.Overlong.{IsShort, IsFirstLong, IsListFault};
+ghost use Rattle.nl_attrs.specs.inner.Reading.{HasBytes};
 
 use crate::attr::{Attr, HEADER, MOST_PAYLOAD, NESTED, aligned};
 use crate::fault::EncodeFault;
@@ -62,12 +64,21 @@ pub fn put_attrs(out: &mut Bytes, attrs: &[Attr]) -> Result<(), OutOfMemory>
     Ok(())
 }
 
+/// How many bytes there are.
+fn byte_count(bytes: &[u8]) -> usize
+    ensures count { result ≡ length bytes.now }
+    ensures bytes { AreBytes bytes.now }
+{
+    bytes.len()
+}
+
 /// The length of the first payload that is too long.
 pub fn first_long(attrs: &[Attr]) -> Option<usize>
-    ensures { MatchOption result (All IsShort attrs.now) (IsFirstLong attrs.now) }
+    ensures long { MatchOption result (All IsShort attrs.now) (IsFirstLong attrs.now) }
+    ensures bytes { IfNone result (All HasBytes attrs.now) }
 {
     for attr in attrs {
-        let length = attr.payload.len();
+        let length = byte_count(attr.payload.as_slice());
         if length > MOST_PAYLOAD {
             return Some(length);
         }

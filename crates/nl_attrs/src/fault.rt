@@ -31,6 +31,13 @@ pub enum AttrsFault {
     OutOfMemory,
 }
 
+/// The first bytes of a payload that are no attribute.
+#[derive(Clone, Copy, Debug, PartialEq, Eq)]
+pub struct Breach {
+    /// Where they stand in the payload, in bytes.
+    pub place: u64,
+}
+
 /// Why a message or a list of attributes can't be written.
 #[derive(Clone, Copy, Debug, PartialEq, Eq)]
 pub enum EncodeFault {
@@ -53,6 +60,14 @@ impl From<OutOfMemory> for AttrsFault {
 
     fn from(_error: OutOfMemory) -> AttrsFault {
         AttrsFault::OutOfMemory
+    }
+}
+
+impl From<Breach> for AttrsFault {
+    ghost from_gives = { λ breach e. e ≡ attrs_faults.BadAttr breach.place };
+
+    fn from(breach: Breach) -> AttrsFault {
+        AttrsFault::BadAttr(breach.place)
     }
 }
 

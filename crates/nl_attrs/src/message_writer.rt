@@ -3,7 +3,7 @@
 ghost use Rattle.std.specs.Prelude.{◌≡◌, ◌+◌, ◌<◌, ◌≤◌, ◌++◌, ◌∷◌, [], length, All, IfOk, IfErr, OnOk, MatchResult};
 ghost use Rattle.nl_attrs.specs.Attributes.{attrs_bytes};
 ghost use Rattle.nl_attrs.specs.Overlong.{IsEncodeFault, IsShort};
-ghost use Rattle.nl_attrs.specs.inner.Reading.{IsSizeFault};
+ghost use Rattle.nl_attrs.specs.inner.Reading.{HasBytes, IsSizeFault};
 ghost use Rattle.nl_attrs.specs.Messages.{IsInRange, IsMsg, head_bytes, spelled};
 
 use crate::attr::Attr;
@@ -33,6 +33,7 @@ fn put_head(out: &mut Bytes, head: Head) -> Result<(), OutOfMemory>
 fn generic_length(attrs: &[Attr]) -> Result<u32, EncodeFault>
     ensures length { IfOk result (λ n. (n ≡ 20 + length (attrs_bytes attrs.now)) × (n ≤ 65536)) }
     ensures short { OnOk result (All IsShort attrs.now) }
+    ensures bytes { OnOk result (All HasBytes attrs.now) }
     ensures fault { IfErr result (IsSizeFault attrs.now) }
 {
     if let Some(length) = first_long(attrs) {
@@ -45,18 +46,11 @@ fn generic_length(attrs: &[Attr]) -> Result<u32, EncodeFault>
     Ok(length as u32)
 }
 
-/// The bytes of a Done message.
-fn done_bytes(
-    alloc: Global,
-    flags: u16,
-    seq: u32,
-    pid: u32,
-    code: i32,
-) -> Result<Bytes, OutOfMemory>
-    ensures bytes { IfOk result (λ bytes. bytes ≡ spelled (Msg.Done flags seq pid code)) }
+/// Writes a Done message.
+fn put_done(out: &mut Bytes, flags: u16, seq: u32, pid: u32, code: i32) -> Result<(), OutOfMemory>
+    ensures bytes { OnOk result (out.new ≡ out.old ++ spelled (Msg.Done flags seq pid code)) }
     ensures message { IsMsg (Msg.Done flags seq pid code) }
 {
-    let mut out = Bytes::new(alloc);
     let head = Head {
         length: DONE_BYTES,
         kind: DONE,
@@ -64,24 +58,24 @@ fn done_bytes(
         seq,
         pid,
     };
-    put_head(&mut out, head)?;
-    put_i32(&mut out, code)?;
-    Ok(out)
+    put_head(out, head)?;
+    put_i32(out, code)?;
+    Ok(())
 }
 
-/// The bytes of an Error message.
-fn error_bytes(
-    alloc: Global,
+/// Writes an Error message.
+fn put_error(
+    out: &mut Bytes,
     flags: u16,
     seq: u32,
     pid: u32,
     code: i32,
-    request: &[u8; 16],
-) -> Result<Bytes, OutOfMemory>
-    ensures bytes { IfOk result (λ bytes. bytes ≡ spelled (Msg.Error flags seq pid code request.now)) }
+    request: &[u8],
+) -> Result<(), OutOfMemory>
+    requires { length request.now ≡ 16 }
+    ensures bytes { OnOk result (out.new ≡ out.old ++ spelled (Msg.Error flags seq pid code request.now)) }
     ensures message { IsMsg (Msg.Error flags seq pid code request.now) }
 {
-    let mut out = Bytes::new(alloc);
     let head = Head {
         length: ERROR_BYTES,
         kind: ERROR,
@@ -89,39 +83,38 @@ fn error_bytes(
         seq,
         pid,
     };
-    put_head(&mut out, head)?;
-    put_i32(&mut out, code)?;
+    put_head(out, head)?;
+    put_i32(out, code)?;
     out.append(request)?;
-    Ok(out)
+    Ok(())
 }
 
-/// The bytes of a message of a family with that head.
-fn generic_bytes(
-    alloc: Global,
+/// Writes a message of a family with that head.
+fn put_generic(
+    out: &mut Bytes,
     head: Head,
     cmd: u8,
     version: u8,
     attrs: &[Attr],
-) -> Result<Bytes, OutOfMemory>
+) -> Result<(), OutOfMemory>
     requires kinds { All (λ a. a.kind < 16384) attrs.now }
     requires short { All IsShort attrs.now }
-    ensures { IfOk result (λ bytes. bytes ≡ head_bytes head.length head.kind head.flags head.seq head.pid
-        ++ (cmd ∷ version ∷ 0 ∷ 0 ∷ attrs_bytes attrs.now)) }
+    ensures { OnOk result (out.new ≡ out.old ++ (head_bytes head.length head.kind head.flags head.seq head.pid
+        ++ (cmd ∷ version ∷ 0 ∷ 0 ∷ attrs_bytes attrs.now))) }
 {
-    let mut out = Bytes::new(alloc);
-    put_head(&mut out, head)?;
+    put_head(out, head)?;
     out.append(&[cmd, version, 0, 0])?;
-    put_attrs(&mut out, attrs)?;
-    Ok(out)
+    put_attrs(out, attrs)?;
+    Ok(())
 }
 
-/// The one spelling of a message. The family is at least 16, and the kinds of attributes are below
-/// 16,384. `EncodeFault::Overlong` names the length of the first payload above 65,531 bytes, or
-/// else of the message where that is above 65,536 bytes.
+/// Writes the one spelling of a message. The family is at least 16, and the kinds of attributes are
+/// below 16,384. `EncodeFault::Overlong` names the length of the first payload above 65,531 bytes,
+/// or else of the message where that is above 65,536 bytes.
 #[tactic(auto, unfolding(crate::specs::Messages::spelled))]
-pub fn encode(alloc: Global, m: &Msg) -> Result<Bytes, EncodeFault>
+pub fn put_message(out: &mut Bytes, m: &Msg) -> Result<(), EncodeFault>
     requires { IsInRange m.now }
-    ensures bytes { IfOk result (λ bytes. bytes ≡ spelled m.now) }
+    ensures bytes { OnOk result (out.new ≡ out.old ++ spelled m.now) }
     ensures message { OnOk result (IsMsg m.now) }
     ensures overlong { IfErr result (IsEncodeFault m.now) }
 {
@@ -144,8 +137,7 @@ pub fn encode(alloc: Global, m: &Msg) -> Result<Bytes, EncodeFault>
                 seq: *seq,
                 pid: *pid,
             };
-            let bytes = generic_bytes(alloc, head, *cmd, *version, attrs)?;
-            Ok(bytes)
+            put_generic(out, head, *cmd, *version, attrs)?;
         }
         Msg::Error {
             flags,
@@ -153,18 +145,25 @@ pub fn encode(alloc: Global, m: &Msg) -> Result<Bytes, EncodeFault>
             pid,
             code,
             head,
-        } => {
-            let bytes = error_bytes(alloc, *flags, *seq, *pid, *code, head)?;
-            Ok(bytes)
-        }
+        } => put_error(out, *flags, *seq, *pid, *code, head)?,
         Msg::Done {
             flags,
             seq,
             pid,
             code,
-        } => {
-            let bytes = done_bytes(alloc, *flags, *seq, *pid, *code)?;
-            Ok(bytes)
-        }
+        } => put_done(out, *flags, *seq, *pid, *code)?,
     }
+    Ok(())
+}
+
+/// The one spelling of a message, as `put_message` writes it.
+pub fn encode(alloc: Global, m: &Msg) -> Result<Bytes, EncodeFault>
+    requires { IsInRange m.now }
+    ensures bytes { IfOk result (λ bytes. bytes ≡ spelled m.now) }
+    ensures message { OnOk result (IsMsg m.now) }
+    ensures overlong { IfErr result (IsEncodeFault m.now) }
+{
+    let mut out = Bytes::new(alloc);
+    put_message(&mut out, m)?;
+    Ok(out)
 }

@@ -1,6 +1,6 @@
 -- What the private functions say of the bytes that they read and count. The words of the format stand beside this file.
 use Rattle.std.specs.Prelude.{◌≡◌, ℕ, ◌+◌, ◌≤◌, ◌⊎◌, true, List, ◌++◌, length, drop, All, None}
-use Rattle.nl_attrs.specs.Endian.{le16_at}
+use Rattle.nl_attrs.specs.Endian.{AreBytes, le16_at}
 use Rattle.nl_attrs.specs.Attributes.{aligned, padding_at, is_zero, bit14, attrs_bytes}
 use Rattle.nl_attrs.specs.Messages.{IsMsg, spelled}
 use Rattle.nl_attrs.specs.Faults.{length_at, type_at, length_fault, type_fault, IsBadBody, IsFamilyWhole, IsFault}
@@ -20,6 +20,10 @@ pub record BeginsAttr (bytes : List ℕ) : Type 0 where
   pub within : aligned (le16_at bytes 0) ≤ length bytes
   pub bit : bit14 (le16_at bytes 2) ≡ 0
   pub zero : is_zero (padding_at bytes (le16_at bytes 0)) ≡ true
+
+-- the payload's items are bytes
+abbrev pub HasBytes : Attr → Type 0
+HasBytes a = AreBytes a.payload
 
 -- no fault of the length nor of the type
 pub record IsGoodHead (n kind : ℕ) : Type 0 where

@@ -5,6 +5,7 @@ use Rattle.nl_attrs.specs.Attributes.{attr_bytes}
 use Rattle.nl_attrs.proofs.Apart.{attr-apart}
 use Rattle.nl_attrs.proofs.AttrLaws.{one_list, one_place, no_breach}
 use Rattle.nl_attrs.proofs.MsgApart.{msg-apart}
+use Rattle.nl_attrs.proofs.Told.{attrs_told}
 use Rattle.nl_attrs.proofs.laws.one_spelling.Goals as goal
 
 pub returns-clause-message : goal.returns-clause-message
@@ -25,3 +26,6 @@ returns-clause-place c = one_place
 
 pub returns-clause-never_both : goal.returns-clause-never_both
 returns-clause-never_both c xs k each breach = no_breach _ k xs breach each refl
+
+pub returns-clause-exists : goal.returns-clause-exists
+returns-clause-exists c = attrs_told

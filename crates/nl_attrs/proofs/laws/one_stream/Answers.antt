@@ -1,6 +1,7 @@
 use Rattle.std.proofs.Common.{ℕ, List, subst}
 use Rattle.nl_attrs.specs.Streams.{AreMessages}
 use Rattle.nl_attrs.proofs.StreamLaws.{one_stream, longest_list, goes_on, fault_ends}
+use Rattle.nl_attrs.proofs.Verdicts.{messages_told}
 use Rattle.nl_attrs.proofs.laws.one_stream.Goals as goal
 
 pub returns-clause-messages : goal.returns-clause-messages
@@ -19,3 +20,6 @@ returns-clause-goes_on c = goes_on
 
 pub returns-clause-fault_ends : goal.returns-clause-fault_ends
 returns-clause-fault_ends c = fault_ends
+
+pub returns-clause-exists : goal.returns-clause-exists
+returns-clause-exists c = messages_told

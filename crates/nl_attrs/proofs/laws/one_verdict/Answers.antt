@@ -1,4 +1,5 @@
 use Rattle.nl_attrs.proofs.FaultLaws.{never_undecided, never_faulty, undecided_no_fault, undecided_not_whole, one_fault}
+use Rattle.nl_attrs.proofs.Verdicts.{verdict}
 use Rattle.nl_attrs.proofs.laws.one_verdict.Goals as goal
 
 pub returns-clause-whole : goal.returns-clause-whole
@@ -15,3 +16,6 @@ returns-clause-waits c = undecided_not_whole
 
 pub returns-clause-fault : goal.returns-clause-fault
 returns-clause-fault c = one_fault
+
+pub returns-clause-exists : goal.returns-clause-exists
+returns-clause-exists c = verdict

@@ -1,12 +1,12 @@
-use Rattle.std.proofs.Common.{arith}
+use Rattle.std.proofs.Common.{append_assoc, arith}
 use Rattle.std.specs.Int.{w32}
 use Rattle.std.proofs.lemmas.Int.{to_z-of_z}
 use Rattle.nl_attrs.proofs.Written.{done_bytes, done_is}
-use Rattle.nl_attrs.proofs.message_writer.done_bytes.Goals as goal
+use Rattle.nl_attrs.proofs.message_writer.put_done.Goals as goal
 
 pub returns-clause-bytes : goal.returns-clause-bytes
 returns-clause-bytes c =
-    rw (c.in_ok-put_i32.ensures, c.in_ok-put_head.ensures, c.new-out.ensures.empty, to_z-of_z w32 c.args.code c.ranges.code) (done_bytes _ _ _ _)
+    rw (c.in_ok-put_i32.ensures, c.in_ok-put_head.ensures, to_z-of_z w32 c.args.code c.ranges.code, append_assoc, done_bytes)
 
 pub returns-clause-message : goal.returns-clause-message
 returns-clause-message c = done_is _ _ _ _ (omega arith) (omega arith) (omega arith) c.ranges.code
