@@ -7,7 +7,7 @@ use Rattle.chan_def.specs.Covered.{width_khz, IsCovered}
 use Rattle.chan_def.specs.declared.definition.ChanDef.{ChanDef}
 use Rattle.rule_intersect.specs.declared.row.TheConstants.{LEAST_CHECK_MS}
 use Rattle.rule_intersect.specs.Subchannels.{AreGoverning, SomeLacksRule}
-use Rattle.rule_intersect.specs.Tuples.{Choice, check_ms, least_by, some_rule}
+use Rattle.rule_intersect.specs.Tuples.{Choice, check_ms, least_by}
 use Rattle.chan_flags.specs.ByRecords.{chan_with_centre, BarsBy, BarsChannel, FitHas, IfFit, IsBoundBy, IsCheckLengthBy, IsLimitBy, IsVerdictBy}
 use Rattle.chan_flags.specs.Lists.{AreChannels, IsRadioChannel}
 use Rattle.chan_flags.specs.Records.{fit_of, AreRecords}
@@ -22,7 +22,7 @@ use Rattle.chan_flags.specs.declared.verdict.ChanRefusal.TheVariants.{LacksChann
 use Rattle.chan_flags.specs.declared.verdict.Verdict.{Verdict}
 use Rattle.chan_flags.specs.declared.verdict.Verdict.TheVariants.{Fits, Refused}
 use Rattle.chan_flags.proofs.Known.{channel_with, known, IsAbsent, IsRuled, IsRuleless}
-use Rattle.chan_flags.proofs.Together.{none_lacks, member_from, SomeGoverning-member, least_by-le, least_by-some, greatest_by-ge, greatest_by-some, some_rule-found, some_rule-from}
+use Rattle.chan_flags.proofs.Together.{none_lacks, member_from, SomeGoverning-member, least_by-le, least_by-some, greatest_by-ge, greatest_by-some, some_rule, some_rule-found, some_rule-from}
 
 -- ---- one channel: its record says what the governing rules say together
 

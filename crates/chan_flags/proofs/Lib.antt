@@ -3,7 +3,6 @@ pub mod Fitting
 pub mod Granted
 pub mod Judged
 pub mod Known
-pub mod Listed
 pub mod OneAnswer
 pub mod Told
 pub mod Searched

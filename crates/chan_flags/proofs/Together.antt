@@ -8,7 +8,8 @@ use Rattle.freq_range.proofs.Members.{Contains-head, Contains-later, Contains-ca
 use Rattle.rule_tables.specs.Governing.{HoldsAt, NoneGoverns}
 use Rattle.rule_tables.specs.declared.domain.Domain.{Domain}
 use Rattle.rule_intersect.specs.Subchannels.{AreGoverning, SomeLacksRule}
-use Rattle.rule_intersect.specs.Tuples.{Choice, greatest_by, least_by, some_rule}
+use Rattle.std.specs.List.{list_any}
+use Rattle.rule_intersect.specs.Tuples.{Choice, greatest_by, least_by}
 use Rattle.rule_intersect.proofs.OwnRows.{IsChoice-unique}
 use Rattle.chan_flags.specs.Verdicts.{IsGoverning, SomeGoverning}
 
@@ -104,6 +105,10 @@ greatest_by-some f (y ∷ ys) = elim (cases_lt (greatest_by f ys) (f y)) [
     | inr found ↦ let is = found.2 in inr (found.0, Contains-later y ys found.0 found.1, omega (arith, more, is))
   ]
 ]
+
+-- some rule of the tuple has the flag
+abbrev pub some_rule : (Rule → Bool) → List Choice → Bool
+some_rule flag t = list_any (λ c. flag c.rule) t
 
 pub some_rule-found : (flag : Rule → Bool) (t : List Choice) → IsTrue (some_rule flag t) → (g : Choice) × Contains t g × IsTrue (flag g.rule)
 some_rule-found flag t some =

@@ -8,7 +8,7 @@ use Rattle.freq_range.proofs.Deciding.{Told, told_as, told_both, told_le}
 use Rattle.chan_flags.specs.Lists.{IsRadioChannel}
 use Rattle.chan_flags.specs.Profiles.{has_band}
 use Rattle.chan_flags.specs.declared.profile.Bands.{Bands}
-use Rattle.chan_flags.proofs.Listed.{number_small}
+use Rattle.freq_range.proofs.Listed.{number_small}
 
 told_either : {P Q : Type 0} → Told P → Told Q → Told (P ⊎ Q)
 told_either p q = elim p [

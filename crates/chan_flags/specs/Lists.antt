@@ -1,5 +1,6 @@
 -- The channels of a radio.
-use Rattle.std.specs.Prelude.{ℕ, ◌<◌, List, All, AllPairs, Contains, IsTrue}
+use Rattle.std.specs.Prelude.{ℕ, List, IsTrue}
+use Rattle.freq_range.specs.Ascending.{AreAllAscending}
 use Rattle.freq_range.specs.Channels.{IsChannel}
 use Rattle.freq_range.specs.declared.channel.Band.{Band}
 use Rattle.chan_flags.specs.Profiles.{has_band}
@@ -10,7 +11,5 @@ abbrev pub IsRadioChannel : Bands → ℕ → Type 0
 IsRadioChannel bands khz = (band : Band) × (n : ℕ) × IsChannel band n khz × IsTrue (has_band bands band)
 
 -- these are the centres of all channels of the bands, ascending
-pub record AreChannels (bands : Bands) (list : List ℕ) : Type 0 where
-  pub all : (khz : ℕ) → IsRadioChannel bands khz → Contains list khz
-  pub only : All (IsRadioChannel bands) list
-  pub ascending : AllPairs (λ low high. low < high) list
+abbrev pub AreChannels : Bands → List ℕ → Type 0
+AreChannels bands list = AreAllAscending (IsRadioChannel bands) list

@@ -1,9 +1,10 @@
 -- What the rules allow on a channel of 20 MHz.
-use Rattle.std.specs.Prelude.{◌≡◌, ℕ, ◌<◌, List, length, All, false, Option, None, Some, slice_get}
+use Rattle.std.specs.Prelude.{◌≡◌, ℕ, ◌<◌, List, length, All, Option, None, Some, slice_get}
+use Rattle.freq_range.specs.Flags.{joined_flags_by}
 use Rattle.rule_tables.specs.declared.domain.Domain.{Domain}
 use Rattle.rule_intersect.specs.declared.row.Row.{Row}
 use Rattle.rule_intersect.specs.Subchannels.{AreGoverning, IsFirstRow, NoRowHolds, SomeLacksRule}
-use Rattle.rule_intersect.specs.Tuples.{Choice, check_ms, greatest_by, least_by, some_rule}
+use Rattle.rule_intersect.specs.Tuples.{Choice, check_ms, greatest_by, least_by}
 use Rattle.chan_flags.specs.Profiles.{Abilities}
 use Rattle.chan_flags.specs.declared.record.Chan.{Chan}
 use Rattle.chan_flags.specs.declared.record.Fit.{Fit}
@@ -12,13 +13,7 @@ use Rattle.chan_flags.specs.declared.record.Fit.{Fit}
 -- among the rules with DFS (0 where none has it), and the least of the widths that they allow in their own domains.
 abbrev pub fit_of : List Choice → Fit
 fit_of t = record {
-  flags = record {
-    no_ofdm = some_rule (λ r. r.flags.no_ofdm) t;
-    no_outdoor = some_rule (λ r. r.flags.no_outdoor) t;
-    dfs = some_rule (λ r. r.flags.dfs) t;
-    no_ir = some_rule (λ r. r.flags.no_ir) t;
-    auto_bw = false;
-  };
+  flags = joined_flags_by (λ c. c.rule.flags) t;
   limit_mbm = least_by (λ c. c.rule.eirp_mbm) t;
   check_ms = greatest_by (λ c. check_ms c.rule) t;
   width_khz = least_by (λ c. c.width_khz) t;

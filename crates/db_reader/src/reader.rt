@@ -10,8 +10,8 @@ use crate::header::check_header;
 use rule_tables::Db;
 use std::alloc::Global;
 
-/// The database that the bytes say, or their first fault in the order of the file; `OutOfMemory`
-/// comes where no memory was found for the database.
+/// The database that the bytes say, or their first fault in the order of the file. `OutOfMemory`
+/// comes where no memory was found for the database, and only behind a good header.
 pub fn read_db(alloc: Global, bytes: &[u8]) -> Result<Db, ReadFault>
     ensures reads { MatchResult result (λ db. ReadsAs bytes.now db) (IsReadFault bytes.now) }
 {

@@ -1,6 +1,7 @@
 //! The flags of a rule.
 
 ghost use Rattle.std.specs.Prelude.{◌≡◌, ◌↔◌, IsTrue};
+ghost use Rattle.freq_range.specs.Flags.{joined_flags};
 
 /// What a rule forbids, asks for or allows besides its limits (`NL80211_RRF_*`).
 #[derive(Clone, Copy, Debug, PartialEq, Eq)]
@@ -36,5 +37,18 @@ impl RuleFlags {
             && self.dfs == other.dfs
             && self.no_ir == other.no_ir
             && self.auto_bw == other.auto_bw
+    }
+
+    /// All flags of both but AUTO-BW, which the allowed width has in it (`reg_rules_intersect`).
+    pub fn joined(&self, other: &RuleFlags) -> RuleFlags
+        ensures joined { result ≡ joined_flags self.now other.now }
+    {
+        RuleFlags {
+            no_ofdm: self.no_ofdm || other.no_ofdm,
+            no_outdoor: self.no_outdoor || other.no_outdoor,
+            dfs: self.dfs || other.dfs,
+            no_ir: self.no_ir || other.no_ir,
+            auto_bw: false,
+        }
     }
 }

@@ -4,6 +4,7 @@
 mod channel;
 mod flags;
 mod list;
+mod listing;
 mod power;
 mod range;
 mod rule;
@@ -12,6 +13,7 @@ mod wmm;
 pub use channel::{Band, channel_khz, khz_channel};
 pub use flags::RuleFlags;
 pub use list::{RuleList, contains_rule};
+pub use listing::all_channels;
 pub use power::mw_to_mbm;
 pub use range::Range;
 pub use rule::Rule;

@@ -1,9 +1,9 @@
 -- Each list of domains has a table or too many rows.
-use Rattle.std.proofs.Common.{ℕ, ◌+◌, ◌<◌, ◌⊎◌, List, [], ◌∷◌, ◌++◌, length, All, arith, refl, sym, subst, inl, inr, append_assoc}
+use Rattle.std.proofs.Common.{ℕ, ◌+◌, ◌<◌, ◌≤◌, ◌⊎◌, List, [], ◌∷◌, ◌++◌, length, All, arith, refl, sym, subst, inl, inr, append_assoc}
 use Rattle.std.proofs.lemmas.Bool.{cases_lt}
 use Rattle.std.proofs.lemmas.List.{length-append, take-append-le, append-nil}
 use Rattle.std.proofs.lemmas.List.Elements.{All-head}
-use Rattle.rule_tables.specs.Domains.{AreRules}
+use Rattle.freq_range.specs.Valid.{IsValidRule}
 use Rattle.rule_tables.specs.declared.domain.Domain.{Domain}
 use Rattle.rule_intersect.specs.inner.Pairs.{met_all}
 use Rattle.rule_intersect.specs.inner.Pairs.{join_all}
@@ -47,10 +47,11 @@ resolved front (d ∷ rest) table is = elim (cases_lt 1024 (met_all table.rows d
         → ((t : Joined) × IsTableOf (front ++ (d ∷ rest)) t) ⊎ ((after : ℕ) × (n : ℕ) × IsTooMany (front ++ (d ∷ rest)) after n)
     moved answer = subst (λ ds. ((t : Joined) × IsTableOf ds t) ⊎ ((after : ℕ) × (n : ℕ) × IsTooMany ds after n)) (append_assoc front (d ∷ []) rest) answer
 
-pub table_or_too_many : (ds : List Domain) → 0 < length ds → All (λ d. AreRules d.rules) ds
+pub table_or_too_many : (ds : List Domain) → 0 < length ds → All (λ d. All IsValidRule d.rules) ds → All (λ d. length d.rules ≤ 128) ds
     → ((t : Joined) × IsTableOf ds t) ⊎ ((after : ℕ) × (n : ℕ) × IsTooMany ds after n)
-table_or_too_many [] some rules = absurd (omega arith)
-table_or_too_many (d ∷ ds) some rules =
-    let are = All-head (λ d. AreRules d.rules) d ds rules in
+table_or_too_many [] some valid few = absurd (omega arith)
+table_or_too_many (d ∷ ds) some valid few =
+    let valid_first = All-head (λ d. All IsValidRule d.rules) d ds valid in
+    let few_first = All-head (λ d. length d.rules ≤ 128) d ds few in
     let own = some_own_rows d.rules in
-    resolved (d ∷ []) ds (record { rows = own.0; domains = 1 }) (IsTableOf-first d own.0 are.each are.few own.1)
+    resolved (d ∷ []) ds (record { rows = own.0; domains = 1 }) (IsTableOf-first d own.0 valid_first few_first own.1)

@@ -1,6 +1,6 @@
 -- The row of a longer tuple.
-use Rattle.std.proofs.Common.{◌≡◌, ℕ, ◌*◌, max, min, false, List, [], ◌∷◌, ◌++◌, arith, refl, sym, ap, ◌∙◌}
-use Rattle.std.proofs.lemmas.List.Folds.{list_any-append}
+use Rattle.std.proofs.Common.{◌≡◌, ℕ, ◌*◌, max, min, List, [], ◌∷◌, ◌++◌, arith, refl, sym, ap, ◌∙◌}
+use Rattle.freq_range.proofs.Joined.{joined_flags_by-push}
 use Rattle.rule_intersect.specs.Joining.{join}
 use Rattle.rule_intersect.specs.inner.Own.{row_alone}
 use Rattle.rule_intersect.specs.Tuples.{Choice, row_of, greatest_by, least_by, check_ms}
@@ -29,13 +29,7 @@ row_of-push x xs c = λ i. record {
   start_khz = greatest_by-append (λ e. e.rule.start_khz) (x ∷ xs) (c ∷ []) i;
   end_khz = least_by-push (λ e. e.rule.end_khz) x xs c i;
   width_khz = least_by-push (λ e. e.width_khz) x xs c i;
-  flags = record {
-    no_ofdm = list_any-append (λ e. e.rule.flags.no_ofdm) (x ∷ xs) (c ∷ []) i;
-    no_outdoor = list_any-append (λ e. e.rule.flags.no_outdoor) (x ∷ xs) (c ∷ []) i;
-    dfs = list_any-append (λ e. e.rule.flags.dfs) (x ∷ xs) (c ∷ []) i;
-    no_ir = list_any-append (λ e. e.rule.flags.no_ir) (x ∷ xs) (c ∷ []) i;
-    auto_bw = false;
-  };
+  flags = joined_flags_by-push (λ e. e.rule.flags) (x ∷ xs) c i;
   eirp_mbm = least_by-push (λ e. e.rule.eirp_mbm) x xs c i;
   cac_ms = greatest_by-append (λ e. e.rule.cac_s * 1000) (x ∷ xs) (c ∷ []) i;
   check_ms = greatest_by-append (λ e. check_ms e.rule) (x ∷ xs) (c ∷ []) i;

@@ -1,6 +1,7 @@
 -- One rule of each domain of a list, and the row that joins them.
-use Rattle.std.specs.Prelude.{◌≡◌, ℕ, ◌*◌, ◌<◌, ◌==◌, ◌⊎◌, max, min, Bool, false, List, [], ◌∷◌, slice_get, Some, if◌then◌else◌}
-use Rattle.std.specs.List.{AllZip, list_any}
+use Rattle.std.specs.Prelude.{◌≡◌, ℕ, ◌*◌, ◌<◌, ◌==◌, ◌⊎◌, max, min, List, [], ◌∷◌, slice_get, Some, if◌then◌else◌}
+use Rattle.std.specs.List.{AllZip}
+use Rattle.freq_range.specs.Flags.{joined_flags_by}
 use Rattle.freq_range.specs.declared.rule.Rule.{Rule}
 use Rattle.rule_tables.specs.Width.{IsAllowedWidth}
 use Rattle.rule_tables.specs.declared.domain.Domain.{Domain}
@@ -42,10 +43,6 @@ least_by f [] = 0
 least_by f (x ∷ []) = f x
 least_by f (x ∷ y ∷ ys) = min (f x) (least_by f (y ∷ ys))
 
--- some rule of the tuple has the flag
-abbrev pub some_rule : (Rule → Bool) → List Choice → Bool
-some_rule flag t = list_any (λ c. flag c.rule) t
-
 -- The row of a tuple: the common range of its rules, and what all of them allow there. The widths are those that the rules
 -- allow in their own domains, and are not cut to the common range.
 abbrev pub row_of : List Choice → Row
@@ -53,13 +50,7 @@ row_of t = record {
   start_khz = greatest_by (λ c. c.rule.start_khz) t;
   end_khz = least_by (λ c. c.rule.end_khz) t;
   width_khz = least_by (λ c. c.width_khz) t;
-  flags = record {
-    no_ofdm = some_rule (λ r. r.flags.no_ofdm) t;
-    no_outdoor = some_rule (λ r. r.flags.no_outdoor) t;
-    dfs = some_rule (λ r. r.flags.dfs) t;
-    no_ir = some_rule (λ r. r.flags.no_ir) t;
-    auto_bw = false;
-  };
+  flags = joined_flags_by (λ c. c.rule.flags) t;
   eirp_mbm = least_by (λ c. c.rule.eirp_mbm) t;
   cac_ms = greatest_by (λ c. c.rule.cac_s * 1000) t;
   check_ms = greatest_by (λ c. check_ms c.rule) t;

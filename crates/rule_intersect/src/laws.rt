@@ -1,7 +1,7 @@
 //! Laws over all tables.
 
-ghost use Rattle.std.specs.Prelude.{◌≡◌, ◌<◌, ◌⊎◌, ℕ, List, length, All};
-ghost use Rattle.rule_tables.specs.Domains.{AreRules};
+ghost use Rattle.std.specs.Prelude.{◌≡◌, ◌<◌, ◌≤◌, ◌⊎◌, ℕ, List, length, All};
+ghost use Rattle.freq_range.specs.Valid.{IsValidRule};
 ghost use Rattle.rule_tables.specs.declared.domain.Domain.{Domain};
 ghost use Rattle.rule_intersect.specs.Subchannels.{EachHasRule, IsFirstRow, IsGoverningRow};
 ghost use Rattle.rule_intersect.specs.Tables.{IsTableOf, IsTooMany, Joined};
@@ -17,10 +17,10 @@ pub fn first_row_is_that_of_all_domains()
         → IsTableOf ds table → EachHasRule ds centre → (k : ℕ) × IsFirstRow table.rows centre k }
 {}
 
-/// A list of domains that pass their checks has one table, or one least prefix with more than 1,024
-/// rows, and not both.
+/// A list of domains has one table, or one least prefix with more than 1,024 rows, and not both. Each
+/// domain has at most 128 rules, all valid, or none, as the one that permits nothing.
 pub fn one_table()
-    ensures some { (ds : List Domain) → 0 < length ds → All (λ d. AreRules d.rules) ds
+    ensures some { (ds : List Domain) → 0 < length ds → All (λ d. All IsValidRule d.rules) ds → All (λ d. length d.rules ≤ 128) ds
         → ((table : Joined) × IsTableOf ds table) ⊎ ((after : ℕ) × (n : ℕ) × IsTooMany ds after n) }
     ensures table { (ds : List Domain) (one other : Joined) → IsTableOf ds one → IsTableOf ds other → one ≡ other }
     ensures fault { (ds : List Domain) (after m other n : ℕ)

@@ -1,7 +1,7 @@
 //! A row: what several domains allow together in one range.
 
 ghost use Rattle.std.specs.Prelude.{◌≡◌, ℕ, ◌∷◌, []};
-ghost use Rattle.rule_intersect.specs.Joining.{meets, meets_rule, join, join_flags};
+ghost use Rattle.rule_intersect.specs.Joining.{meets, meets_rule, join};
 ghost use Rattle.rule_intersect.specs.Tuples.{check_ms, row_of};
 
 use freq_range::{Range, Rule, RuleFlags};
@@ -42,29 +42,16 @@ fn check_length_ms(rule: &Rule) -> u32
     }
 }
 
-/// The flags of either, without AUTO-BW.
-fn all_flags(one: &RuleFlags, other: &RuleFlags) -> RuleFlags
-    ensures { result ≡ join_flags one.now other.now }
-{
-    RuleFlags {
-        no_ofdm: one.no_ofdm || other.no_ofdm,
-        no_outdoor: one.no_outdoor || other.no_outdoor,
-        dfs: one.dfs || other.dfs,
-        no_ir: one.no_ir || other.no_ir,
-        auto_bw: false,
-    }
-}
-
 impl Row {
     /// The row of a rule alone, which allows this width, in kHz.
     pub fn of_rule(rule: &Rule, width_khz: u32) -> Row
-        ensures { (number : ℕ) → result ≡ row_of (record { number = number; rule = rule.now; width_khz = width_khz } ∷ []) }
+        ensures row { (number : ℕ) → result ≡ row_of (record { number = number; rule = rule.now; width_khz = width_khz } ∷ []) }
     {
         Row {
             start_khz: rule.start_khz,
             end_khz: rule.end_khz,
             width_khz,
-            flags: all_flags(&rule.flags, &RuleFlags::NONE),
+            flags: rule.flags.joined(&RuleFlags::NONE),
             eirp_mbm: rule.eirp_mbm,
             cac_ms: u32::from(rule.cac_s) * 1000,
             check_ms: check_length_ms(rule),
@@ -84,27 +71,27 @@ impl Row {
 
     /// Whether the row and the rule have a common range.
     pub fn meets_rule(&self, rule: &Rule) -> bool
-        ensures { result ≡ meets_rule self.now rule.now }
+        ensures meets { result ≡ meets_rule self.now rule.now }
     {
         self.start_khz.max(rule.start_khz) < self.end_khz.min(rule.end_khz)
     }
 
     /// Whether both rows have a common range.
     pub fn meets(&self, other: &Row) -> bool
-        ensures { result ≡ meets self.now other.now }
+        ensures meets { result ≡ meets self.now other.now }
     {
         self.start_khz.max(other.start_khz) < self.end_khz.min(other.end_khz)
     }
 
     /// What both allow, in their common range.
     pub fn joined(&self, other: &Row) -> Row
-        ensures { result ≡ join self.now other.now }
+        ensures joined { result ≡ join self.now other.now }
     {
         Row {
             start_khz: self.start_khz.max(other.start_khz),
             end_khz: self.end_khz.min(other.end_khz),
             width_khz: self.width_khz.min(other.width_khz),
-            flags: all_flags(&self.flags, &other.flags),
+            flags: self.flags.joined(&other.flags),
             eirp_mbm: self.eirp_mbm.min(other.eirp_mbm),
             cac_ms: self.cac_ms.max(other.cac_ms),
             check_ms: self.check_ms.max(other.check_ms),
