@@ -10,6 +10,9 @@ pub const LAST_MOMENT_MS: u64 = 1_000_000_000_000_000;
 /// (`IEEE80211_DFS_MIN_NOP_TIME_MS`).
 pub const NONOCCUPANCY_MS: u64 = 1_800_000;
 
+/// How long a check that is done stands on a channel that isn't used, in ms, where it can lapse.
+pub const UNUSED_CHECK_MS: u64 = 2_000;
+
 /// The later of two moments, either of which there may not be.
 pub(crate) fn later(one: Option<u64>, other: Option<u64>) -> Option<u64>
     ensures { IsMost (λ moment. (one ≡ Some moment) ⊎ (other ≡ Some moment)) result }
