@@ -1,15 +1,17 @@
 -- Radar and checks (CAC, channel availability check), over the whole journal: quiet subchannels, and checks that stand for one.
-use Rattle.std.specs.Prelude.{◌≡◌, ℕ, ◌+◌, ◌<◌, ◌≤◌, List, ◌∷◌, ◌++◌, Some}
+use Rattle.std.specs.Prelude.{◌≡◌, ℕ, ◌+◌, ◌<◌, ◌≤◌, ◌⊎◌, List, ◌∷◌, ◌++◌, Contains, Some, IsSomeAnd, IsTrue}
+use Rattle.rule_tables.specs.declared.code.Region.TheVariants.{Etsi}
 use Rattle.rule_tables.specs.declared.domain.Domain.{Domain}
 use Rattle.chan_def.specs.Covered.{IsCovered}
+use Rattle.chan_def.specs.Kinds.{initiates}
 use Rattle.chan_def.specs.declared.definition.ChanDef.{ChanDef}
 use Rattle.chan_flags.specs.Lists.{IsRadioChannel}
 use Rattle.dfs_states.specs.Greatest.{IsGreatest}
-use Rattle.dfs_states.specs.declared.moments.TheConstants.{NONOCCUPANCY_MS}
+use Rattle.dfs_states.specs.declared.moments.TheConstants.{NONOCCUPANCY_MS, UNUSED_CHECK_MS}
 use Rattle.dfs_states.specs.declared.dfs.Dfs.{Dfs}
 use Rattle.dfs_states.specs.declared.dfs.Dfs.TheVariants.{Usable, Unavailable, Available}
 use Rattle.reg_journal.specs.Facts.{Fact, Journal, radar_met, check_begun, check_dropped}
-use Rattle.reg_journal.specs.Present.{now_of, abilities_of, radio_of}
+use Rattle.reg_journal.specs.Present.{Iface, now_of, abilities_of, radio_of, ifaces_on, operation_of}
 use Rattle.reg_journal.specs.Applicable.{region_of}
 
 -- ---- radar
@@ -70,10 +72,43 @@ pub record Counts (db : List Domain) (J : Journal) (r s end : ℕ) : Type 0 wher
   pub no_radar : HasRadar newer r s → ⊥
   pub same_region : KeepsRegion db newer (check_begun iface chan length ∷ older) r
 
--- a check stands for the subchannel: it counts, and it ended at this moment, which isn't to come
+-- ---- checks that lapse
+
+-- an interface of the radio that sends first operates on the subchannel
+pub record IsUsed (J : Journal) (r s : ℕ) : Type 0 where
+  pub iface : Iface
+  pub there : Contains (ifaces_on J r) iface
+  pub sends_first : IsTrue (initiates iface.kind)
+  pub operates : IsSomeAnd (operation_of J iface.index) (λ o. IsCovered o.chan s)
+
+-- the subchannel was used at this moment: it was so over the journal or over one before it
+pub record WasUsedAt (J : Journal) (r s moment : ℕ) : Type 0 where
+  pub newer : Journal
+  pub older : Journal
+  pub split : J ≡ newer ++ older
+  pub used : IsUsed older r s
+  pub at : moment ≡ now_of older
+
+-- the check ended at this moment, or the subchannel was used at it
+abbrev pub IsUse : Journal → ℕ → ℕ → ℕ → ℕ → Type 0
+IsUse J r s end moment = (moment ≡ end) ⊎ WasUsedAt J r s moment
+
+-- A check that ended at this moment has lapsed: at some time, 2,000 ms had passed since its end and since the last use of the
+-- subchannel up to then.
+pub record HasLapsed (J : Journal) (r s end : ℕ) : Type 0 where
+  pub newer : Journal
+  pub older : Journal
+  pub split : J ≡ newer ++ older
+  pub last : ℕ
+  pub is_last : IsGreatest (IsUse older r s end) last
+  pub long_ago : last + UNUSED_CHECK_MS ≤ now_of older
+
+-- A check stands for the subchannel: it counts, and it ended at this moment, which isn't to come. Where the radio's region isn't
+-- that of ETSI, it hasn't lapsed.
 pub record Stands (db : List Domain) (J : Journal) (r s end : ℕ) : Type 0 where
   pub counts : Counts db J r s end
   pub over : end ≤ now_of J
+  pub lasts : (region_of db J r ≡ Etsi) ⊎ (HasLapsed J r s end → ⊥)
 
 -- no check stands for the subchannel
 abbrev pub NoneStands : List Domain → Journal → ℕ → ℕ → Type 0
