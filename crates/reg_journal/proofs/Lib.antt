@@ -5,3 +5,5 @@ pub mod Granting
 pub mod Settling
 pub mod Verdicts
 pub mod SameNames
+pub mod Splitting
+pub mod ToldStates

@@ -1,13 +1,17 @@
 //! Laws over all journals.
 
-ghost use Rattle.std.specs.Prelude.{◌≡◌, ℕ, List, [], Bool};
+ghost use Rattle.std.specs.Prelude.{◌≡◌, ℕ, ◌⊎◌, List, [], Bool};
+ghost use Rattle.rule_tables.specs.declared.code.Region.TheVariants.{Etsi};
 ghost use Rattle.rule_tables.specs.declared.domain.Domain.{Domain};
 ghost use Rattle.chan_def.specs.declared.definition.ChanDef.{ChanDef};
+ghost use Rattle.dfs_states.specs.declared.dfs.Dfs.{Dfs};
+ghost use Rattle.reg_journal.specs.Applicable.{region_of};
 ghost use Rattle.reg_journal.specs.Causes.{IsFree};
 ghost use Rattle.reg_journal.specs.Facts.{Fact, Journal};
 ghost use Rattle.reg_journal.specs.Granted.{IsGranted};
 ghost use Rattle.reg_journal.specs.Permits.{BarsOperation, IsPowerOf};
 ghost use Rattle.reg_journal.specs.Present.{Iface, ifaces_of};
+ghost use Rattle.reg_journal.specs.Radar.{HasLapsed, IsState};
 ghost use Rattle.reg_journal.specs.Replies.{Replies};
 ghost use Rattle.reg_journal.specs.Settled.{AreSettled};
 ghost use Rattle.reg_journal.specs.Sweep.{AreSwept};
@@ -18,6 +22,20 @@ ghost use Rattle.reg_journal.specs.declared.request.Request.{Request};
 pub fn one_reply()
     ensures { (db : List Domain) (journal : Journal) (q : Request) (failed : Bool) (one other : Reply) (facts others : List Fact)
         → Replies db journal q failed one facts → Replies db journal q failed other others → (one ≡ other) × (facts ≡ others) }
+{}
+
+/// There is one state for each subchannel over each journal.
+pub fn one_state()
+    ensures some { (db : List Domain) (journal : Journal) (r s : ℕ) → (dfs : Dfs) × IsState db journal r s dfs }
+    ensures one { (db : List Domain) (journal : Journal) (r s : ℕ) (one other : Dfs)
+        → IsState db journal r s one → IsState db journal r s other → one ≡ other }
+{}
+
+/// Over each journal it is decided whether a radio's region is ETSI, and whether a check that ended
+/// at some moment has lapsed.
+pub fn lapsing_is_decided()
+    ensures region { (db : List Domain) (journal : Journal) (r : ℕ) → (region_of db journal r ≡ Etsi) ⊎ (region_of db journal r ≡ Etsi → ⊥) }
+    ensures lapsed { (journal : Journal) (r s end : ℕ) → HasLapsed journal r s end ⊎ (HasLapsed journal r s end → ⊥) }
 {}
 
 /// Nothing bars a start that is granted, and its power is the one that its setting gives.
