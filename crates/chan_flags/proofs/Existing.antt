@@ -210,7 +210,7 @@ whole W40 = (40, refl)
 whole W80 = (80, refl)
 whole W160 = (160, refl)
 
-within_or_above : (setting : PowerSetting) (limit : ℕ) → IsWithinLimit setting limit ⊎ IsAbove setting limit
+pub within_or_above : (setting : PowerSetting) (limit : ℕ) → IsWithinLimit setting limit ⊎ IsAbove setting limit
 within_or_above Auto limit = inl tt
 within_or_above (Limit power) limit = inl tt
 within_or_above (Fixed power) limit = elim (cases_lt limit power) [ inl above ↦ inr above | inr within ↦ inl within ]

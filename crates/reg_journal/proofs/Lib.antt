@@ -7,3 +7,5 @@ pub mod Verdicts
 pub mod SameNames
 pub mod Splitting
 pub mod ToldStates
+pub mod Permitting
+pub mod Starting
