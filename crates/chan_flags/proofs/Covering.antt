@@ -13,7 +13,7 @@ use Rattle.chan_flags.specs.Verdicts.{BarsFirst}
 abbrev pub EachBelow : (ℕ → Type 0) → ChanDef → ℕ → Type 0
 EachBelow P c n = (s j : ℕ) → j < n → IsSubchannel (width_khz c.width) c.centre_khz j s → P s
 
-one_centre : (width centre i s t : ℕ) → IsSubchannel width centre i s → IsSubchannel width centre i t → s ≡ t
+pub one_centre : (width centre i s t : ℕ) → IsSubchannel width centre i s → IsSubchannel width centre i t → s ≡ t
 one_centre width centre i s t a b =
     let at_s = a.at in
     let at_t = b.at in

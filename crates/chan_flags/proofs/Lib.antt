@@ -1,4 +1,6 @@
 pub mod Covering
+pub mod Ends
+pub mod Existing
 pub mod Fitting
 pub mod Granted
 pub mod Judged

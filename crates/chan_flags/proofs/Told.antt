@@ -10,7 +10,7 @@ use Rattle.chan_flags.specs.Profiles.{has_band}
 use Rattle.chan_flags.specs.declared.profile.Bands.{Bands}
 use Rattle.freq_range.proofs.Listed.{number_small}
 
-told_either : {P Q : Type 0} → Told P → Told Q → Told (P ⊎ Q)
+pub told_either : {P Q : Type 0} → Told P → Told Q → Told (P ⊎ Q)
 told_either p q = elim p [
   | inl is ↦ inl (inl is)
   | inr never ↦ elim q [
@@ -34,7 +34,7 @@ told_channel Ghz5 n khz = told_both
     (cases_eq khz (5000000 + 5000 * n))
 told_channel Ghz6 n khz = told_both (told_step 1 233 n) (cases_eq khz (5950000 + 5000 * n))
 
-told_below : (P : ℕ → Type 0) → ((n : ℕ) → Told (P n)) → (m : ℕ) → Told ((n : ℕ) × (n < m) × P n)
+pub told_below : (P : ℕ → Type 0) → ((n : ℕ) → Told (P n)) → (m : ℕ) → Told ((n : ℕ) × (n < m) × P n)
 told_below P tell zero = inr (λ (n, below, is). omega arith)
 told_below P tell (suc m) = elim (tell m) [
   | inl is ↦ inl (m, omega arith, is)

@@ -24,6 +24,11 @@ pub fn one_verdict()
     ensures records { (chans : List Chan) (q : Asked) (one other : Verdict) → IsVerdictBy chans q one → IsVerdictBy chans q other → one ≡ other }
 {}
 
+/// There is a verdict of each list of domains on whatever is asked.
+pub fn some_verdict()
+    ensures { (ds : List Domain) (q : Asked) → (verdict : Verdict) × IsVerdict ds q verdict }
+{}
+
 /// A channel is allowed exactly where the radio has its subchannels and its width, each subchannel
 /// fits the governing rule of each domain, and a fixed power is within the limit.
 pub fn allowed_where_it_fits()

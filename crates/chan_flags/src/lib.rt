@@ -12,7 +12,7 @@ mod radio;
 mod record;
 mod verdict;
 
-pub use laws::{allowed_where_it_fits, one_record, one_verdict};
+pub use laws::{allowed_where_it_fits, one_record, one_verdict, some_verdict};
 pub use profile::{Bands, Profile};
 pub use radio::RadioChans;
 pub use record::{Chan, Fit};

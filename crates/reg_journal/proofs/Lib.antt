@@ -5,3 +5,7 @@ pub mod Granting
 pub mod Settling
 pub mod Verdicts
 pub mod SameNames
+pub mod Splitting
+pub mod ToldStates
+pub mod Permitting
+pub mod Starting

@@ -1,14 +1,16 @@
 -- What it is that a start is granted.
-use Rattle.std.specs.Prelude.{ℕ, ◌≤◌, List, ◌∷◌, length, IsTrue}
+use Rattle.std.specs.Prelude.{◌≡◌, ℕ, ◌≤◌, List, ◌∷◌, length, IsTrue}
 use Rattle.rule_tables.specs.declared.domain.Domain.{Domain}
 use Rattle.chan_def.specs.Covered.{IsCovered, IsValidDef}
 use Rattle.chan_def.specs.Kinds.{initiates}
 use Rattle.chan_def.specs.declared.definition.ChanDef.{ChanDef}
+use Rattle.chan_def.specs.declared.kind.Kind.{Kind}
 use Rattle.chan_flags.specs.Fits.{IsGranting}
 use Rattle.reg_journal.specs.Facts.{Journal}
 use Rattle.reg_journal.specs.Present.{Iface, abilities_of}
 use Rattle.reg_journal.specs.Applicable.{applies}
 use Rattle.reg_journal.specs.Radar.{IsQuiet, Stands}
+use Rattle.reg_journal.specs.Refusals.{InUseFor}
 use Rattle.reg_journal.specs.Permits.{asked_by, width_mhz, distinct, channels_beside, IsBoundOn}
 
 -- a check (CAC) stands for the subchannel, and no nonoccupancy (NOP) runs there
@@ -32,3 +34,8 @@ pub record IsGranted (db : List Domain) (J : Journal) (x : Iface) (c : ChanDef) 
   pub valid : IsValidDef c
   pub contexts : length (distinct (c ∷ channels_beside J x)) ≤ (abilities_of J x.radio).contexts
   pub permitted : IsPermitted db J x c power
+
+-- A start as this kind may come: the interface is of the kind and has no running check, nor an operation unless a monitor starts.
+pub record IsStartable (J : Journal) (x : Iface) (kind : Kind) : Type 0 where
+  pub of_kind : x.kind ≡ kind
+  pub free : InUseFor J x kind → ⊥

@@ -9,6 +9,7 @@ pub mod Refusals
 pub mod Sweep
 pub mod Effects
 pub mod Dumps
+pub mod Requests
 pub mod Replies
 pub mod OnAir
 pub mod Due

@@ -2,6 +2,7 @@
 -- no fact, or else what is granted.
 use Rattle.std.specs.Prelude.{◌≡◌, ◌≢◌, ℕ, ◌+◌, ◌<◌, ◌⊎◌, Bool, ◌||◌, cond, List, [], ◌∷◌, ◌++◌, All, None, MatchOption, IsSomeAnd}
 use Rattle.std.specs.List.{flat_map}
+use Rattle.rule_tables.specs.Databases.{IsDb}
 use Rattle.rule_tables.specs.declared.code.Alpha2.{Alpha2}
 use Rattle.rule_tables.specs.declared.domain.Domain.{Domain}
 use Rattle.chan_flags.specs.Profiles.{IsProfile}
@@ -16,6 +17,7 @@ use Rattle.reg_journal.specs.Applicable.{hints_of, is_self_managed}
 use Rattle.reg_journal.specs.Causes.{◌before◌, IsFree}
 use Rattle.reg_journal.specs.Permits.{IsPowerOf, IsLengthOf}
 use Rattle.reg_journal.specs.Refusals.{MomentCauses, LacksRadio, RadioAddCauses, RulesCauses, ElementCauses, HintCauses, IfaceAddCauses, LacksIface, SetTypeCauses, SetPowerCauses, StopCauses, StartCauses, CheckCauses, RadarCauses}
+use Rattle.reg_journal.specs.Requests.{IsTyped}
 use Rattle.reg_journal.specs.Sweep.{AreSwept, released}
 use Rattle.reg_journal.specs.Effects.{effects_of}
 use Rattle.reg_journal.specs.Dumps.{AreSections, AreShownChannels, IsRadioReport, IsIfaceReport}
@@ -142,7 +144,8 @@ IsAskable (RadioAdd r profile) = (r < 8) × IsProfile profile
 IsAskable (RadioRules r rules) = All (λ rule. (rule.cac_s ≡ 0) × (rule.wmm ≡ None)) rules
 IsAskable q = Unit {0}
 
--- A journal is regular where requests led to it.
+-- A journal is regular where requests led to it, each of its type, over a database with its ranges.
 pub data IsRegular (db : List Domain) : Journal → Type 0 where
-  at_first : IsRegular db []
-  one_more : (J next : Journal) (q : Request) (failed : Bool) (reply : Reply) → IsRegular db J → IsAskable q → Steps db J q failed reply next → IsRegular db next
+  at_first : IsDb db → IsRegular db []
+  one_more : (J next : Journal) (q : Request) (failed : Bool) (reply : Reply) → IsRegular db J → IsTyped q → IsAskable q → Steps db J q failed reply next
+      → IsRegular db next

@@ -1,17 +1,26 @@
 //! Laws over all journals.
 
-ghost use Rattle.std.specs.Prelude.{◌≡◌, ℕ, List, [], Bool};
+ghost use Rattle.std.specs.Prelude.{◌≡◌, ℕ, ◌⊎◌, List, [], ◌∷◌, Bool, false, Some, IsSomeAnd};
+ghost use Rattle.rule_tables.specs.declared.code.Region.TheVariants.{Etsi};
 ghost use Rattle.rule_tables.specs.declared.domain.Domain.{Domain};
 ghost use Rattle.chan_def.specs.declared.definition.ChanDef.{ChanDef};
+ghost use Rattle.chan_def.specs.declared.kind.Kind.{Kind};
+ghost use Rattle.dfs_states.specs.declared.dfs.Dfs.{Dfs};
+ghost use Rattle.reg_journal.specs.Applicable.{region_of};
 ghost use Rattle.reg_journal.specs.Causes.{IsFree};
-ghost use Rattle.reg_journal.specs.Facts.{Fact, Journal};
-ghost use Rattle.reg_journal.specs.Granted.{IsGranted};
+ghost use Rattle.reg_journal.specs.Facts.{Fact, Journal, started};
+ghost use Rattle.reg_journal.specs.Granted.{IsGranted, IsStartable};
 ghost use Rattle.reg_journal.specs.Permits.{BarsOperation, IsPowerOf};
-ghost use Rattle.reg_journal.specs.Present.{Iface, ifaces_of};
+ghost use Rattle.reg_journal.specs.Present.{Iface, ifaces_of, named};
+ghost use Rattle.reg_journal.specs.Radar.{HasLapsed, IsState};
 ghost use Rattle.reg_journal.specs.Replies.{Replies};
 ghost use Rattle.reg_journal.specs.Settled.{AreSettled};
 ghost use Rattle.reg_journal.specs.Sweep.{AreSwept};
+ghost use Rattle.reg_journal.specs.declared.effects.Effect.{Effect};
+ghost use Rattle.reg_journal.specs.declared.reply.Answer.TheVariants.{Started};
 ghost use Rattle.reg_journal.specs.declared.reply.Reply.{Reply};
+ghost use Rattle.reg_journal.specs.declared.reply.Reply.TheVariants.{Plain};
+ghost use Rattle.reg_journal.specs.declared.request.Request.TheVariants.{Start};
 ghost use Rattle.reg_journal.specs.declared.request.Request.{Request};
 
 /// Over a journal a request has at most one reply, and appends the same facts with it.
@@ -20,12 +29,37 @@ pub fn one_reply()
         → Replies db journal q failed one facts → Replies db journal q failed other others → (one ≡ other) × (facts ≡ others) }
 {}
 
+/// There is one state for each subchannel over each journal.
+pub fn one_state()
+    ensures some { (db : List Domain) (journal : Journal) (r s : ℕ) → (dfs : Dfs) × IsState db journal r s dfs }
+    ensures one { (db : List Domain) (journal : Journal) (r s : ℕ) (one other : Dfs)
+        → IsState db journal r s one → IsState db journal r s other → one ≡ other }
+{}
+
+/// Over each journal it is decided whether a radio's region is ETSI, and whether a check that ended
+/// at some moment has lapsed.
+pub fn lapsing_is_decided()
+    ensures region { (db : List Domain) (journal : Journal) (r : ℕ) → (region_of db journal r ≡ Etsi) ⊎ (region_of db journal r ≡ Etsi → ⊥) }
+    ensures lapsed { (journal : Journal) (r s end : ℕ) → HasLapsed journal r s end ⊎ (HasLapsed journal r s end → ⊥) }
+{}
+
 /// Nothing bars a start that is granted, and its power is the one that its setting gives.
 pub fn granted_is_not_barred()
     ensures free { (db : List Domain) (journal : Journal) (x : Iface) (c : ChanDef) (power : ℕ)
         → IsGranted db journal x c power → IsFree (BarsOperation db journal x c) }
     ensures power { (db : List Domain) (journal : Journal) (x : Iface) (c : ChanDef) (power : ℕ)
         → IsGranted db journal x c power → IsPowerOf db journal x c power }
+{}
+
+/// A start is answered with a power exactly where it is granted with it, on an interface of the kind
+/// that is free for it, and the driver doesn't fail.
+pub fn started_where_granted()
+    ensures granted { (db : List Domain) (journal : Journal) (name : List ℕ) (kind : Kind) (c : ChanDef) (failed : Bool) (power : ℕ) (effects : List Effect)
+        (facts : List Fact) → Replies db journal (Start name kind c) failed (Plain (Started power) effects) facts
+        → IsSomeAnd (named journal name) (λ x. IsStartable journal x kind × IsGranted db journal x c power) }
+    ensures started { (db : List Domain) (journal : Journal) (name : List ℕ) (kind : Kind) (c : ChanDef) (power : ℕ) (x : Iface)
+        → named journal name ≡ Some x → IsStartable journal x kind → IsGranted db journal x c power
+        → Replies db journal (Start name kind c) false (Plain (Started power) []) (started x.index c power ∷ []) }
 {}
 
 /// Where what each interface does may go on as it is, a sweep of all interfaces does nothing.

@@ -11,7 +11,10 @@ mod report;
 mod request;
 
 pub use effects::{Effect, Effects, MOST_EFFECTS};
-pub use laws::{granted_is_not_barred, one_reply, what_may_go_on_is_not_swept};
+pub use laws::{
+    granted_is_not_barred, lapsing_is_decided, one_reply, one_state, started_where_granted,
+    what_may_go_on_is_not_swept,
+};
 pub use lists::{ChanList, IfaceList, RowList, SectionList};
 pub use refusal::Refusal;
 pub use reply::{Answer, HintAnswer, Reply};

@@ -1,0 +1,210 @@
+-- Where nothing ends an operation it may go on, and where nothing bars a start it is granted.
+use Rattle.std.proofs.Common.{◌≡◌, ℕ, ◌*◌, ◌/◌, ◌<◌, ◌≤◌, ◌⊎◌, true, List, [], ◌∷◌, length, IsTrue, arith, refl, sym, ap, subst, inl, inr}
+use Rattle.std.proofs.lemmas.Bool.{cases_lt}
+use Rattle.freq_range.specs.Channels.{IsCentre}
+use Rattle.freq_range.specs.declared.channel.Band.{Band}
+use Rattle.freq_range.specs.declared.channel.Band.TheVariants.{Ghz2, Ghz5, Ghz6}
+use Rattle.freq_range.proofs.Deciding.{Told, told_as, told_both}
+use Rattle.rule_tables.specs.declared.domain.Domain.{Domain}
+use Rattle.chan_def.specs.Covered.{width_khz, IsCovered, IsValidDef}
+use Rattle.chan_def.specs.Kinds.{initiates}
+use Rattle.chan_def.specs.declared.definition.ChanDef.{ChanDef}
+use Rattle.chan_flags.specs.Lists.{IsRadioChannel}
+use Rattle.chan_flags.specs.Profiles.{has_band}
+use Rattle.chan_flags.specs.Verdicts.{Bars, BarsFirst, BarsNone, HasWidth, IsAbove, IsWithinLimit, NoneBars}
+use Rattle.chan_flags.specs.declared.asked.Obstacle.{Obstacle}
+use Rattle.chan_flags.specs.declared.asked.Obstacle.TheVariants.{Missing, Unruled, Narrow, OfdmBarred, IrBarred, OutdoorBarred}
+use Rattle.chan_flags.specs.declared.profile.Bands.{Bands}
+use Rattle.chan_flags.proofs.Existing.{first_or_none, some_length, told_bars, told_covered, told_governing, told_not, told_true, within_or_above}
+use Rattle.chan_flags.proofs.Granted.{granting_from_verdict}
+use Rattle.chan_flags.proofs.Told.{told_radio_channel}
+use Rattle.reg_journal.specs.Facts.{Journal}
+use Rattle.reg_journal.specs.Present.{Check, Iface, abilities_of}
+use Rattle.reg_journal.specs.Applicable.{applies}
+use Rattle.reg_journal.specs.Causes.{IsFree, ◌before◌, Where, AtLowest}
+use Rattle.reg_journal.specs.Permits.{asked_by, channels_beside, distinct, width_mhz, IsBoundOn, IsLimitOf, IsPowerOf, LacksChannel, LacksWidth, LacksContext, RulesForbid, PassesLimit, LacksRadarWidth, MetRadar, LacksCheck, EndsOperation, EndsCheck, BarsOperation}
+use Rattle.reg_journal.specs.Radar.{IsQuiet, NoneStands, Stands}
+use Rattle.reg_journal.specs.Granted.{IsGranted, IsPermitted}
+use Rattle.reg_journal.specs.Settled.{IsCheckPermitted}
+use Rattle.reg_journal.specs.Sweep.{MustDrop}
+use Rattle.reg_journal.specs.declared.refusal.Refusal.{Refusal}
+use Rattle.reg_journal.specs.declared.refusal.Refusal.TheVariants.{RadioLacks, RadioLacksWidth, RadioLacksContext, NoRule, Width as TooNarrow, NoOfdm, NoIr, NoOutdoor, Power, RadioLacksRadarWidth, Radar, Unchecked}
+use Rattle.reg_journal.proofs.Granting.{OnEachBound, whole_mhz}
+use Rattle.reg_journal.proofs.ToldStates.{some_stands, told_quiet}
+
+-- ---- what no cause says
+
+pub free-first : (one next : Refusal → Type 0) → IsFree (one before next) → IsFree one
+free-first one next free e cause = free e (inl cause)
+
+pub free-next : (one next : Refusal → Type 0) → IsFree (one before next) → IsFree next
+free-next one next free e cause = free e (inr (free-first one next free, cause))
+
+pub never_where : (P : Type 0) (x : Refusal) → IsFree (Where P x) → P → ⊥
+never_where P x free is = free x (is, refl)
+
+-- bars no subchannel, where it is told of each
+none_of_free : (bars : ℕ → Type 0) (c : ChanDef) (refusal : ℕ → Refusal) → ((s : ℕ) → Told (bars s)) → IsFree (AtLowest bars c refusal) → BarsNone bars c
+none_of_free bars c refusal tell free = elim (first_or_none bars c tell) [
+  | inl none ↦ none
+  | inr (s, first) ↦ absurd (free (refusal s) (s, first, refl))
+]
+
+none_barred : (db : List Domain) (J : Journal) (x : Iface) (c : ChanDef) (obstacle : Obstacle) (refusal : ℕ → Refusal)
+    → IsFree (AtLowest (Bars (applies db J x.radio) (asked_by J x c) obstacle) c refusal) → BarsNone (Bars (applies db J x.radio) (asked_by J x c) obstacle) c
+none_barred db J x c obstacle refusal free =
+    none_of_free (Bars (applies db J x.radio) (asked_by J x c) obstacle) c refusal (told_bars (applies db J x.radio) (asked_by J x c) obstacle) free
+
+has_width : (J : Journal) (x : Iface) (c : ChanDef) → IsFree (LacksWidth J x c) → HasWidth (asked_by J x c)
+has_width J x c free = elim (cases_lt (abilities_of J x.radio).width_mhz (width_mhz c)) [
+  | inl less ↦ absurd (never_where _ _ free less)
+  | inr wide ↦ let whole = whole_mhz c.width in omega (arith, wide, whole)
+]
+
+no_rule_bars : (db : List Domain) (J : Journal) (x : Iface) (c : ChanDef) → IsFree (RulesForbid db J x c)
+    → NoneBars (Bars (applies db J x.radio) (asked_by J x c)) c (Unruled ∷ Narrow ∷ OfdmBarred ∷ IrBarred ∷ OutdoorBarred ∷ [])
+no_rule_bars db J x c free =
+    let second = free-next (AtLowest (Bars (applies db J x.radio) (asked_by J x c) Unruled) c NoRule) _ free in
+    let third = free-next (AtLowest (Bars (applies db J x.radio) (asked_by J x c) Narrow) c TooNarrow) _ second in
+    let fourth = free-next (AtLowest (Bars (applies db J x.radio) (asked_by J x c) OfdmBarred) c NoOfdm) _ third in
+    let fifth = free-next (AtLowest (Bars (applies db J x.radio) (asked_by J x c) IrBarred) c NoIr) _ fourth in (
+      none_barred db J x c Unruled NoRule (free-first _ _ free),
+      (
+        none_barred db J x c Narrow TooNarrow (free-first _ _ second),
+        (
+          none_barred db J x c OfdmBarred NoOfdm (free-first _ _ third),
+          (
+            none_barred db J x c IrBarred NoIr (free-first _ _ fourth),
+            (none_barred db J x c OutdoorBarred NoOutdoor fifth, tt),
+          ),
+        ),
+      ),
+    )
+
+within : (db : List Domain) (J : Journal) (x : Iface) (c : ChanDef) (limit : ℕ) → IsFree (PassesLimit db J x c) → IsLimitOf db J x c limit → IsWithinLimit x.setting limit
+within db J x c limit free is = elim (within_or_above x.setting limit) [
+  | inl below ↦ below
+  | inr above ↦ absurd (free (Power limit) (limit, is, above, refl))
+]
+
+has_radar_width : (db : List Domain) (J : Journal) (x : Iface) (c : ChanDef) → IsFree (LacksRadarWidth db J x c)
+    → OnEachBound db J x c (λ s. width_mhz c ≤ (abilities_of J x.radio).radar_mhz)
+has_radar_width db J x c free sends s covered bound = elim (cases_lt (abilities_of J x.radio).radar_mhz (width_mhz c)) [
+  | inl less ↦ absurd (never_where _ _ free (sends, (s, covered, bound), less))
+  | inr wide ↦ wide
+]
+
+pub told_bound : (db : List Domain) (J : Journal) (r s : ℕ) → Told (IsBoundOn db J r s)
+told_bound db J r s = told_governing (λ g. IsTrue g.rule.flags.dfs) (λ g. told_true g.rule.flags.dfs) (applies db J r) s
+
+told_three : (P Q R : Type 0) → Told P → Told Q → Told R → Told (P × Q × R)
+told_three P Q R p q r = told_as (λ is. (is.0, is.1.0, is.1.1)) (λ is. (is.0, (is.1, is.2))) (told_both p (told_both q r))
+
+is_quiet : (db : List Domain) (J : Journal) (x : Iface) (c : ChanDef) → IsFree (MetRadar db J x c) → OnEachBound db J x c (IsQuiet J x.radio)
+is_quiet db J x c free sends s covered bound = elim (told_quiet J x.radio s) [
+  | inl quiet ↦ quiet
+  | inr never ↦ absurd (none_of_free (λ s. IsTrue (initiates x.kind) × IsBoundOn db J x.radio s × (IsQuiet J x.radio s → ⊥)) c Radar
+      (λ s. told_three _ _ _ (told_true (initiates x.kind)) (told_bound db J x.radio s) (told_not (IsQuiet J x.radio s) (told_quiet J x.radio s))) free s covered (sends, bound, never))
+]
+
+told_none_stands : (db : List Domain) (J : Journal) (r s : ℕ) → Told (NoneStands db J r s)
+told_none_stands db J r s = elim (some_stands db J r s) [
+  | inl (end, is) ↦ inr (λ none. none end is)
+  | inr none ↦ inl none
+]
+
+is_checked : (db : List Domain) (J : Journal) (x : Iface) (c : ChanDef) → IsFree (LacksCheck db J x c) → OnEachBound db J x c (λ s. (end : ℕ) × Stands db J x.radio s end)
+is_checked db J x c free sends s covered bound = elim (some_stands db J x.radio s) [
+  | inl found ↦ found
+  | inr none ↦ absurd (none_of_free (λ s. IsTrue (initiates x.kind) × IsBoundOn db J x.radio s × NoneStands db J x.radio s) c Unchecked
+      (λ s. told_three _ _ _ (told_true (initiates x.kind)) (told_bound db J x.radio s) (told_none_stands db J x.radio s)) free s covered (sends, bound, none))
+]
+
+-- ---- what may go on
+
+-- what is left of the causes behind the radio's channels, width and contexts
+abbrev pub Forbids : List Domain → Journal → Iface → ChanDef → Refusal → Type 0
+Forbids db J x c =
+    RulesForbid db J x c before PassesLimit db J x c before LacksRadarWidth db J x c before MetRadar db J x c before LacksCheck db J x c
+
+permitted_of_parts : (db : List Domain) (J : Journal) (x : Iface) (c : ChanDef) (power : ℕ) → IsFree (LacksChannel db J x c) → IsFree (LacksWidth J x c)
+    → IsFree (Forbids db J x c) → IsPowerOf db J x c power → IsPermitted db J x c power
+permitted_of_parts db J x c power channels width free (limit, is, power_is) =
+    let passes = free-next (RulesForbid db J x c) _ free in
+    let lacks = free-next (PassesLimit db J x c) _ passes in
+    let met = free-next (LacksRadarWidth db J x c) _ lacks in
+    let unchecked = free-next (MetRadar db J x c) _ met in
+    let length = some_length (applies db J x.radio) (asked_by J x c) in
+    record {
+      fits = (
+        length.0,
+        granting_from_verdict (applies db J x.radio) (asked_by J x c) power length.0 (record {
+          has_width = has_width J x c width;
+          none_bars = (none_barred db J x c Missing RadioLacks channels, no_rule_bars db J x c (free-first _ _ free));
+          limit = limit;
+          is_limit = is;
+          within = within db J x c limit (free-first _ _ passes) is;
+          power_is = power_is;
+          length_is = length.1;
+        }),
+      );
+      radar_width = has_radar_width db J x c (free-first _ _ lacks);
+      clear = λ sends s covered bound.
+          let check = is_checked db J x c unchecked sends s covered bound in
+          record { quiet = is_quiet db J x c (free-first _ _ met) sends s covered bound; end = check.0; stands = check.1 };
+    }
+
+-- an operation that nothing ends may go on with the power of its setting
+pub permitted_of_free : (db : List Domain) (J : Journal) (x : Iface) (c : ChanDef) (power : ℕ) → IsFree (EndsOperation db J x c) → IsPowerOf db J x c power
+    → IsPermitted db J x c power
+permitted_of_free db J x c power free is =
+    let width = free-next (LacksChannel db J x c) _ free in
+    permitted_of_parts db J x c power (free-first _ _ free) (free-first _ _ width) (free-next (LacksWidth J x c) _ width) is
+
+-- a start on a valid channel that nothing bars is granted
+pub granted_of_free : (db : List Domain) (J : Journal) (x : Iface) (c : ChanDef) (power : ℕ) → IsValidDef c → IsFree (BarsOperation db J x c) → IsPowerOf db J x c power
+    → IsGranted db J x c power
+granted_of_free db J x c power valid free is =
+    let width = free-next (LacksChannel db J x c) _ free in
+    let context = free-next (LacksWidth J x c) _ width in
+    record {
+      valid = valid;
+      contexts = elim (cases_lt (abilities_of J x.radio).contexts (length (distinct (c ∷ channels_beside J x)))) [
+        | inl less ↦ absurd (never_where _ _ (free-first (LacksContext J x c) _ context) less)
+        | inr few ↦ few
+      ];
+      permitted = permitted_of_parts db J x c power (free-first _ _ free) (free-first _ _ width) (free-next (LacksContext J x c) _ context) is;
+    }
+
+-- a running check that needn't go may go on
+pub check_permitted_of_kept : (db : List Domain) (J : Journal) (x : Iface) (k : Check) → (MustDrop db J x k → ⊥) → IsCheckPermitted db J x k
+check_permitted_of_kept db J x k stays =
+    let free : IsFree (EndsCheck db J x k.chan) = λ e cause. stays (inl (e, cause)) in
+    let width = free-next (LacksChannel db J x k.chan) _ free in
+    let rules = free-next (LacksWidth J x k.chan) _ width in
+    let lacks = free-next (RulesForbid db J x k.chan) _ rules in
+    record {
+      has_width = has_width J x k.chan (free-first _ _ width);
+      none_bars = (none_barred db J x k.chan Missing RadioLacks (free-first _ _ free), no_rule_bars db J x k.chan (free-first _ _ rules));
+      radar_width = has_radar_width db J x k.chan (free-first _ _ lacks);
+      quiet = is_quiet db J x k.chan (free-next (LacksRadarWidth db J x k.chan) _ lacks);
+      same_region = λ changed. stays (inr changed);
+    }
+
+-- ---- valid channels
+
+every_band : Bands
+every_band = record { ghz2 = true; ghz5 = true; ghz6 = true }
+
+told_centre : (khz : ℕ) → Told (IsCentre khz)
+unfolding every_band
+told_centre khz = told_as (λ (band, n, is, has). (band, n, is)) (λ (band, n, is). (band, n, is, each band)) (told_radio_channel every_band khz)
+  where
+    each : (band : Band) → IsTrue (has_band every_band band)
+    each Ghz2 = refl
+    each Ghz5 = refl
+    each Ghz6 = refl
+
+pub told_valid : (c : ChanDef) → Told (IsValidDef c)
+told_valid c = told_as (λ is. record { in_table = is.0; on_channel = is.1 }) (λ valid. (valid.in_table, valid.on_channel))
+    (told_both (told_centre c.control_khz) (told_covered c c.control_khz))
