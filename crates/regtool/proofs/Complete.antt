@@ -3,15 +3,15 @@ use Rattle.std.proofs.Common.{◌≡◌, ℕ, List, [], length, get_or, ◌⊎�
 use Rattle.std.specs.declared.alloc.Global.{Global}
 use Rattle.std.specs.declared.string.String.{String}
 use Rattle.regtool.specs.Answer.{ConvertsTo, IsStatusOf, IsComplete, RunsTo, TellsFault, TellsLength}
-use Rattle.regtool.specs.Conversions.{NamesConversion}
-use Rattle.regtool.specs.Converted.{IsConverted}
-use Rattle.regtool.specs.Devices.{Devices}
-use Rattle.regtool.specs.Run.{IsRunStatus, NamesRun}
-use Rattle.regtool.specs.declared.conversion.Conversion.{Conversion}
-use Rattle.regtool.specs.declared.status.Status.{Status}
-use Rattle.regtool.specs.declared.status.Status.TheVariants.{Done, Usage, Refused, ReadFault, WriteFault, NoMemory, TooLong}
-use Rattle.regtool.proofs.FromConversion.{Names-unique, completed, told_fault, told_length}
-use Rattle.regtool.proofs.FromRun.{ran_fault, ran_long_file, ran_long_script, ran_whole}
+use Rattle.db_commands.specs.Conversions.{NamesConversion}
+use Rattle.db_commands.specs.Converted.{IsConverted}
+use Rattle.db_commands.specs.Devices.{Devices}
+use Rattle.script_run.specs.Run.{IsRunStatus, NamesRun}
+use Rattle.db_commands.specs.declared.conversion.Conversion.{Conversion}
+use Rattle.db_commands.specs.declared.status.Status.{Status}
+use Rattle.db_commands.specs.declared.status.Status.TheVariants.{Done, Usage, Refused, ReadFault, WriteFault, NoMemory, TooLong}
+use Rattle.db_commands.proofs.FromConversion.{Names-unique, completed, told_fault, told_length}
+use Rattle.script_run.proofs.FromRun.{ran_fault, ran_long_file, ran_long_script, ran_whole}
 
 -- ---- the answer
 

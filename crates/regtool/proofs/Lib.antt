@@ -1,9 +1,1 @@
 pub mod Complete
-pub mod Drivers
-pub mod FirstTime
-pub mod FromConversion
-pub mod FromRun
-pub mod OneFault
-pub mod Scripts
-pub mod Told
-pub mod Turning

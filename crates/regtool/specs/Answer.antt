@@ -5,15 +5,16 @@ use Rattle.std.specs.declared.string.String.{String}
 use Rattle.rule_tables.specs.FileFaults.{IsDbFault}
 use Rattle.rule_tables.specs.declared.domain.Domain.{Domain}
 use Rattle.rule_tables.specs.declared.file_fault.DbFault.{DbFault}
-use Rattle.regtool.specs.Conversions.{IsConversion, IsInputFault, NamesConversion}
-use Rattle.regtool.specs.Converted.{HasInput, IsConverted, MayConvert, WritesOutput}
-use Rattle.regtool.specs.Devices.{AreLeft, Devices, IsUnread, IsUntouched, input_limit}
-use Rattle.regtool.specs.Run.{HasFile, HasScript, IsRunStatus, IsSilent, MayRun, NamesRun, WritesReplies}
-use Rattle.regtool.specs.declared.conversion.Conversion.{Conversion}
-use Rattle.regtool.specs.declared.status.InputFault.{InputFault}
-use Rattle.regtool.specs.declared.status.InputFault.TheVariants.{Database}
-use Rattle.regtool.specs.declared.status.Status.{Status}
-use Rattle.regtool.specs.declared.status.Status.TheVariants.{Done, Usage, Refused, NoMemory, TooLong}
+use Rattle.db_commands.specs.Conversions.{IsConversion, IsInputFault, NamesConversion}
+use Rattle.db_commands.specs.Converted.{HasInput, IsConverted, MayConvert, WritesOutput}
+use Rattle.db_commands.specs.Status.{EndsWith}
+use Rattle.db_commands.specs.Devices.{AreLeft, Devices, IsUnread, IsUntouched, input_limit}
+use Rattle.script_run.specs.Run.{HasFile, HasScript, IsRunStatus, IsSilent, MayRun, NamesRun, WritesReplies}
+use Rattle.db_commands.specs.declared.conversion.Conversion.{Conversion}
+use Rattle.db_commands.specs.declared.status.InputFault.{InputFault}
+use Rattle.db_commands.specs.declared.status.InputFault.TheVariants.{Database}
+use Rattle.db_commands.specs.declared.status.Status.{Status}
+use Rattle.db_commands.specs.declared.status.Status.TheVariants.{Done, Usage, Refused, NoMemory, TooLong}
 
 -- the words are the form of a command
 abbrev pub IsCommand : List (String Global) → Type 0
@@ -32,10 +33,6 @@ RunsTo words d status = (name : List ℕ) × NamesRun words name × IsRunStatus 
 abbrev pub IsStatusOf : List (String Global) → Devices → Status → Type 0
 IsStatusOf words d Usage = (IsCommand words → ⊥) × IsUnread d.files × IsUntouched d.input × IsSilent d
 IsStatusOf words d status = ConvertsTo words d status ⊎ RunsTo words d status
-
--- it is this, or memory was wanting
-abbrev pub EndsWith : Status → Status → Type 0
-EndsWith status wanted = (status ≡ NoMemory) ⊎ (status ≡ wanted)
 
 -- Where nothing keeps a command from its output, the status is `Done` and all of it is written, or memory was wanting.
 pub record IsComplete (words : List (String Global)) (d : Devices) (status : Status) : Type 0 where

@@ -1,9 +1,1 @@
-pub mod Status
-pub mod Devices
-pub mod Conversions
-pub mod Converted
-pub mod Output
-pub mod Driven
-pub mod Run
 pub mod Answer
-pub mod inner

@@ -2,7 +2,7 @@
 
 ghost use Rattle.std.specs.Prelude.{◌≡◌, [], ◌∷◌, ◌⊎◌, IfSome, codes, map, string_bytes};
 
-use crate::conversion::are_only;
+use db_commands::are_only;
 
 /// The commands and the statuses.
 const HELP: &str = "regtool: the regulatory core of Linux wireless

@@ -2,7 +2,7 @@
 
 ghost use Rattle.std.specs.Prelude.{◌≡◌, ℕ, List};
 ghost use Rattle.rule_tables.specs.declared.domain.Domain.{Domain};
-ghost use Rattle.regtool.specs.Output.{IsOutput};
+ghost use Rattle.script_run.specs.Output.{IsOutput};
 
 /// Over a database a script has at most one output where no driver fails.
 pub fn one_output()

@@ -1,4 +1,4 @@
-use Rattle.regtool.proofs.Scripts.{one_output}
+use Rattle.script_run.proofs.Scripts.{one_output}
 use Rattle.regtool.proofs.laws.one_output.Goals as goal
 
 pub returns : goal.returns

@@ -1,0 +1,3 @@
+pub mod FirstTime
+pub mod FromConversion
+pub mod OneFault

@@ -1,0 +1,4 @@
+pub mod Status
+pub mod Devices
+pub mod Conversions
+pub mod Converted

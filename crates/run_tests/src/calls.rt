@@ -1,0 +1,122 @@
+//! Runs of scripts over the database of a text, and the replies that each line has to have.
+
+ghost use Rattle.std.specs.Prelude.{◌≡◌};
+
+use db_commands::Status;
+use db_text::parse;
+use db_writer::layout;
+use radio_drv::{FailingDriver, SimDriver};
+use reg_base::{Bytes, Files, MemFiles, MemSink, MemSource, Sink, Source};
+use reg_core::Drivers;
+use script_run::{add_driver, run};
+use std::alloc::Global;
+use std::process::Abort;
+use std::test::Fail;
+
+/// The name of the database file.
+pub const NAME: &str = "regulatory.db";
+
+/// More than the replies of these tests have.
+pub const ROOM: usize = 4096;
+
+/// The world, and a country with radar channels.
+pub const RULES: &str = "country 00:
+\t(2402 - 2472 @ 40), (20)
+\t(5170 - 5250 @ 80), (20), NO-IR, AUTO-BW
+\t(5250 - 5330 @ 80), (20), NO-IR, DFS, AUTO-BW
+country US: DFS-FCC
+\t(2400 - 2472 @ 40), (30)
+\t(5150 - 5250 @ 80), (23), AUTO-BW
+\t(5250 - 5350 @ 80), (24), DFS, AUTO-BW
+";
+
+/// A line of a script, and its reply.
+pub type Row<'a> = (&'a str, &'a str);
+
+/// A copy of the bytes.
+pub fn bytes(alloc: Global, given: &[u8]) -> Result<Bytes, Fail> {
+    let mut bytes = Bytes::new(alloc);
+    bytes.append(given)?;
+    Ok(bytes)
+}
+
+/// The file of the database that the text stands for.
+pub fn database(alloc: Global, text: &str) -> Result<Bytes, Fail> {
+    let db = parse(alloc, text.as_bytes())?;
+    let file = layout(alloc, &db)?;
+    Ok(file)
+}
+
+/// What `run` ends with over eight drivers, of which the first fails at the listed calls; and how often
+/// that one failed.
+pub fn call<F: Files, S: Source, K: Sink>(
+    alloc: Global,
+    failing: &[u64],
+    files: &mut F,
+    input: &mut S,
+    out: &mut K,
+) -> Result<(Status, u64), Fail> {
+    let mut drivers: Drivers = Vec::new(alloc);
+    let first = FailingDriver::new(alloc, failing)?;
+    add_driver(&mut drivers, Box::new(alloc, first)?)?;
+    add_driver(&mut drivers, Box::new(alloc, SimDriver::new())?)?;
+    add_driver(&mut drivers, Box::new(alloc, SimDriver::new())?)?;
+    add_driver(&mut drivers, Box::new(alloc, SimDriver::new())?)?;
+    add_driver(&mut drivers, Box::new(alloc, SimDriver::new())?)?;
+    add_driver(&mut drivers, Box::new(alloc, SimDriver::new())?)?;
+    add_driver(&mut drivers, Box::new(alloc, SimDriver::new())?)?;
+    add_driver(&mut drivers, Box::new(alloc, SimDriver::new())?)?;
+    let status = run(alloc, NAME, files, input, out, &mut drivers);
+    let faults = match drivers.as_slice() {
+        [Some(driver), ..] => driver.faults(),
+        _ => 0,
+    };
+    Ok((status, faults))
+}
+
+/// What `run` ends with for the script over the database file, and the sink that it wrote to; and how
+/// often the first driver failed, which does so at the listed calls.
+pub fn answered(
+    alloc: Global,
+    file: Bytes,
+    script: &[u8],
+    failing: &[u64],
+) -> Result<(Status, MemSink, u64), Fail> {
+    let mut files = MemFiles::new(alloc, NAME, file)?;
+    let mut input = MemSource::new(bytes(alloc, script)?, 16);
+    let mut out = MemSink::new(alloc, ROOM)?;
+    let (status, faults) = call(alloc, failing, &mut files, &mut input, &mut out)?;
+    Ok((status, out, faults))
+}
+
+/// The lines are answered row by row over the database of the text, where the first driver fails at the
+/// listed calls; and how often it failed.
+pub fn replies(
+    rt: &impl Abort,
+    alloc: Global,
+    text: &str,
+    failing: &[u64],
+    rows: &[Row<'_>],
+) -> Result<u64, Fail> {
+    let mut script = Bytes::new(alloc);
+    for (line, _reply) in rows {
+        script.append(line.as_bytes())?;
+        script.push(b'\n')?;
+    }
+    let file = database(alloc, text)?;
+    let (status, out, faults) = answered(alloc, file, script.as_slice(), failing)?;
+    assert!(rt; status == Status::Done);
+    stand_in_order(rt, out.written(), rows);
+    Ok(faults)
+}
+
+/// The bytes are the replies of the rows, one behind the other.
+fn stand_in_order(rt: &impl Abort, written: &[u8], rows: &[Row<'_>]) {
+    let mut left = written;
+    for (line, reply) in rows {
+        let rest = left.strip_prefix(reply.as_bytes());
+        assert!(rt; rest.is_some(), "{line}");
+        left = rest.unwrap_or(b"");
+    }
+    assert!(rt; left.is_empty(), "behind the last line");
+}

@@ -1,0 +1,5 @@
+pub mod Drivers
+pub mod FromRun
+pub mod Scripts
+pub mod Told
+pub mod Turning

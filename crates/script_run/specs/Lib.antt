@@ -1,0 +1,4 @@
+pub mod Output
+pub mod Driven
+pub mod Run
+pub mod inner
