@@ -6,6 +6,7 @@ use Rattle.chan_def.specs.declared.width.Width.{Width}
 use Rattle.chan_def.specs.declared.width.Width.TheVariants.{Noht, W20, W40, W80, W160, W320}
 use Rattle.freq_range.specs.declared.channel.Band.TheVariants.{Ghz6}
 
+-- how wide a channel of this width is, in kHz
 abbrev pub width_khz : Width → ℕ
 width_khz Noht = 20000
 width_khz W20 = 20000

@@ -7,6 +7,7 @@ use Rattle.chan_def.specs.declared.iw_word.IwWord.TheVariants.{WithoutHt, Ht20, 
 use Rattle.chan_def.specs.declared.width.Width.{Width}
 use Rattle.chan_def.specs.declared.width.Width.TheVariants.{Noht, W20, W40, W80, W160}
 
+-- how the word is spelled
 abbrev pub spelling : IwWord → List ℕ
 spelling WithoutHt = codes "NOHT"
 spelling Ht20 = codes "HT20"
@@ -15,6 +16,7 @@ spelling Ht40Minus = codes "HT40-"
 spelling Vht80 = codes "80MHz"
 spelling Vht160 = codes "160MHz"
 
+-- the width that the word gives the channel
 abbrev pub width_of : IwWord → Width
 width_of WithoutHt = Noht
 width_of Ht20 = W20
@@ -27,6 +29,7 @@ width_of Vht160 = W160
 abbrev pub blocks_80 : List ℕ
 blocks_80 = 5210000 ∷ 5290000 ∷ 5530000 ∷ 5610000 ∷ 5690000 ∷ 5775000 ∷ []
 
+-- the centres, in kHz, of the blocks of 160 MHz
 abbrev pub blocks_160 : List ℕ
 blocks_160 = 5250000 ∷ 5570000 ∷ []
 

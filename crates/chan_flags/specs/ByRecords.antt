@@ -38,6 +38,7 @@ BarsChannel q OfdmBarred chan = (20000 < width_khz q.chan.width) × FitHas (λ f
 BarsChannel q IrBarred chan = IsTrue (initiates q.kind) × FitHas (λ fit. IsTrue fit.flags.no_ir) chan
 BarsChannel q OutdoorBarred chan = IsTrue (initiates q.kind) × (q.indoor ≡ false) × FitHas (λ fit. IsTrue fit.flags.no_outdoor) chan
 
+-- the obstacle bars the subchannel, by the record of the channel with this centre
 abbrev pub BarsBy : List Chan → Asked → Obstacle → ℕ → Type 0
 BarsBy chans q obstacle s = BarsChannel q obstacle (chan_with_centre chans s)
 

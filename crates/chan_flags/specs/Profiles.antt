@@ -10,6 +10,7 @@ has_band bands Ghz2 = bands.ghz2
 has_band bands Ghz5 = bands.ghz5
 has_band bands Ghz6 = bands.ghz6
 
+-- at least one band is set
 abbrev pub has_some : Bands → Bool
 has_some bands = bands.ghz2 || bands.ghz5 || bands.ghz6
 
@@ -25,6 +26,7 @@ pub record Abilities : Type 0 where
   pub self_managed : Bool
   pub deaf : Bool
 
+-- what a radio can do, made of its parts
 abbrev pub abilities : Bands → ℕ → ℕ → ℕ → ℕ → Bool → Bool → Abilities
 abilities bands width radar power contexts self_managed deaf = record {
   bands = bands;

@@ -106,6 +106,7 @@ IsWithinLimit Auto limit = Unit {0}
 IsWithinLimit (Limit power) limit = Unit {0}
 IsWithinLimit (Fixed power) limit = power ≤ limit
 
+-- a fixed power is above this limit; no other setting ever is
 abbrev pub IsAbove : PowerSetting → ℕ → Type 0
 IsAbove Auto limit = ⊥
 IsAbove (Limit power) limit = ⊥
@@ -143,6 +144,7 @@ pub record IsAllowed (bars : Obstacle → ℕ → Type 0) (limits lengths : ℕ 
   pub power_is : power ≡ power_of q.setting limit
   pub length_is : lengths length
 
+-- the verdict, over any tests for what bars a subchannel, for limits and for lengths of checks: a refusal, or power and length
 abbrev pub IsVerdictOf : (Obstacle → ℕ → Type 0) → (ℕ → Type 0) → (ℕ → Type 0) → Asked → Verdict → Type 0
 IsVerdictOf bars limits lengths q (Refused refusal) = IsChanRefusal bars limits q refusal
 IsVerdictOf bars limits lengths q (Fits power length) = IsAllowed bars limits lengths q power length

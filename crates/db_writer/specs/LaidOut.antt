@@ -28,6 +28,7 @@ rule_record wmm_at r = record {
   wmm = option_map wmm_at r.wmm;
 }
 
+-- where the record of the rule stands, in words, in the section of rules that begins at `first`
 unfoldable pub place_of_rule : (Wmm → ℕ) → ℕ → List RuleRecord → Rule → ℕ
 place_of_rule wmm_at first rules r = place_in rule_key rule_words first rules (rule_record wmm_at r)
 
@@ -35,6 +36,7 @@ place_of_rule wmm_at first rules r = place_in rule_key rule_words first rules (r
 unfoldable pub collection_record : (Rule → ℕ) → Domain → CollectionRecord
 collection_record rule_at d = record { region = region_number d.region; rules = map rule_at d.rules }
 
+-- where the record of its collection stands, in words, in the section that begins at `first`
 unfoldable pub collection_place : (Rule → ℕ) → ℕ → List CollectionRecord → Domain → ℕ
 collection_place rule_at first collections d = place_in collection_key collection_words first collections (collection_record rule_at d)
 
@@ -42,12 +44,15 @@ collection_place rule_at first collections d = place_in collection_key collectio
 abbrev pub IsRuleInUse : List Domain → Rule → Type 0
 IsRuleInUse ds r = (d : Domain) × Contains ds d × Contains d.rules r
 
+-- a rule in use has the WMM rule of these bytes
 abbrev pub UsesWmm : List Domain → List ℕ → Type 0
 UsesWmm ds bytes = (r : Rule) × (w : Wmm) × IsRuleInUse ds r × (r.wmm ≡ Some w) × (bytes ≡ wmm_bytes w)
 
+-- a rule in use has this record
 abbrev pub UsesRule : (Wmm → ℕ) → List Domain → RuleRecord → Type 0
 UsesRule wmm_at ds x = (r : Rule) × IsRuleInUse ds r × (x ≡ rule_record wmm_at r)
 
+-- a domain has this record of its collection
 abbrev pub UsesCollection : (Rule → ℕ) → List Domain → CollectionRecord → Type 0
 UsesCollection rule_at ds c = (d : Domain) × Contains ds d × (c ≡ collection_record rule_at d)
 
@@ -62,9 +67,11 @@ pub record Sections : Type 0 where
 abbrev pub first_wmm : List Domain → ℕ
 first_wmm ds = 2 + length ds + 1
 
+-- where the rules begin, in words
 abbrev pub first_rule : List Domain → Sections → ℕ
 first_rule ds s = first_wmm ds + 8 * length s.wmm_rules
 
+-- where the collections begin, in words
 abbrev pub first_collection : List Domain → Sections → ℕ
 first_collection ds s = first_rule ds s + sum_by rule_words s.rules
 
@@ -72,9 +79,11 @@ first_collection ds s = first_rule ds s + sum_by rule_words s.rules
 abbrev pub wmm_at : List Domain → Sections → Wmm → ℕ
 wmm_at ds s = wmm_place (first_wmm ds) s.wmm_rules
 
+-- where the record of a rule stands, in words
 abbrev pub rule_at : List Domain → Sections → Rule → ℕ
 rule_at ds s = place_of_rule (wmm_at ds s) (first_rule ds s) s.rules
 
+-- where the record of a domain's collection stands, in words
 abbrev pub collection_at : List Domain → Sections → Domain → ℕ
 collection_at ds s = collection_place (rule_at ds s) (first_collection ds s) s.collections
 

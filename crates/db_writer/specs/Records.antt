@@ -12,6 +12,7 @@ use Rattle.db_writer.specs.declared.records.RuleRecord.{RuleRecord}
 unfoldable pub be16 : ℕ → List ℕ
 be16 n = big_bytes 2 n
 
+-- a number in four bytes
 unfoldable pub be32 : ℕ → List ℕ
 be32 n = big_bytes 4 n
 
@@ -20,6 +21,7 @@ be32 n = big_bytes 4 n
 unfoldable pub wmm_entry_bytes : WmmEntry → List ℕ
 wmm_entry_bytes e = (e.min_exp * 16 + e.max_exp) ∷ e.aifsn ∷ be16 e.cot_ms
 
+-- the record of a WMM rule: its eight entries, those of clients first
 unfoldable pub wmm_bytes : Wmm → List ℕ
 wmm_bytes w =
     flat_map wmm_entry_bytes (w.vo_c ∷ w.vi_c ∷ w.be_c ∷ w.bk_c ∷ w.vo_ap ∷ w.vi_ap ∷ w.be_ap ∷ w.bk_ap ∷ [])
@@ -29,6 +31,7 @@ abbrev pub bit : Bool → ℕ
 bit true = 1
 bit false = 0
 
+-- a rule's flags in one byte
 unfoldable pub flags_byte : RuleFlags → ℕ
 flags_byte f = bit f.no_ofdm + 2 * bit f.no_outdoor + 4 * bit f.dfs + 8 * bit f.no_ir + 16 * bit f.auto_bw
 
@@ -47,11 +50,13 @@ abbrev pub rule_end : ℕ → Option ℕ → List ℕ
 rule_end seconds None = if seconds == 0 then [] else be16 seconds ++ be16 0
 rule_end seconds (Some place) = be16 seconds ++ be16 place
 
+-- the record of a rule
 unfoldable pub rule_bytes : RuleRecord → List ℕ
 rule_bytes r =
     rule_length r.cac_s r.wmm ∷ r.flags
     ∷ (be16 r.eirp_mbm ++ (be32 r.start_khz ++ (be32 r.end_khz ++ (be32 r.max_bw_khz ++ rule_end r.cac_s r.wmm))))
 
+-- how many words of 4 bytes it takes
 unfoldable pub rule_words : RuleRecord → ℕ
 rule_words r = (rule_length r.cac_s r.wmm + 3) / 4
 
@@ -64,6 +69,7 @@ collection_key c = c.region ∷ c.rules
 unfoldable pub collection_padding : ℕ → List ℕ
 collection_padding count = if count % 2 == 0 then [] else be16 0
 
+-- the record of a collection
 unfoldable pub collection_bytes : CollectionRecord → List ℕ
 collection_bytes c = 3 ∷ length c.rules ∷ c.region ∷ 0 ∷ (flat_map be16 c.rules ++ collection_padding (length c.rules))
 

@@ -13,6 +13,7 @@ pub record IsValidEntry (e : WmmEntry) : Type 0 where
   pub aifsn_fits : e.aifsn < 2 ^ 8
   pub cot_fits : e.cot_ms < 2 ^ 16
 
+-- each of its eight entries is valid
 pub record IsValidWmm (w : Wmm) : Type 0 where
   pub vo_c : IsValidEntry w.vo_c
   pub vi_c : IsValidEntry w.vi_c

@@ -10,5 +10,6 @@ pub record Seen : Type 0 where
   pub count : ℕ
   pub steady : Bool
 
+-- what is seen of a driver, made of its parts
 abbrev pub seen : List OnAir → Option CheckTold → ℕ → Bool → Seen
 seen air told count steady = record { air = air; told = told; count = count; steady = steady }

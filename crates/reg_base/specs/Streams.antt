@@ -8,6 +8,7 @@ use Rattle.reg_base.specs.declared.streams.StdSource.{StdSource}
 abbrev pub reader_of : {R : Type 0} → StdSource R → R
 reader_of s = s.reader
 
+-- how often reading failed so far
 abbrev pub failed_reads : {R : Type 0} → StdSource R → ℕ
 failed_reads s = s.faults
 
@@ -15,6 +16,7 @@ failed_reads s = s.faults
 abbrev pub writer_of : {W : Type 0} → StdSink W → W
 writer_of s = s.writer
 
+-- how often writing failed so far
 abbrev pub failed_writes : {W : Type 0} → StdSink W → ℕ
 failed_writes s = s.faults
 

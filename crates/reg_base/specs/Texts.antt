@@ -8,6 +8,7 @@ abbrev pub ◌>>=◌ : {A B : Type 0} → Option A → (A → Option B) → Opti
 (Some x) >>= f = f x
 None >>= f = None
 
+-- both have the same bytes, as a test
 abbrev pub same_bytes : List ℕ → List ℕ → Bool
 same_bytes xs ys = pointwise nat_eq xs ys
 

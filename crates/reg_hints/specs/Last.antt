@@ -12,6 +12,7 @@ last_code (User alpha2 intersected) = alpha2
 last_code (Driver alpha2) = alpha2
 last_code (Element radio alpha2) = alpha2
 
+-- the core's own hint
 abbrev pub is_core : Last → Bool
 is_core Core = true
 is_core (User alpha2 intersected) = false
@@ -25,12 +26,14 @@ is_intersected_user (User alpha2 intersected) = intersected
 is_intersected_user (Driver alpha2) = false
 is_intersected_user (Element radio alpha2) = false
 
+-- a driver's hint
 abbrev pub is_driver : Last → Bool
 is_driver Core = false
 is_driver (User alpha2 intersected) = false
 is_driver (Driver alpha2) = true
 is_driver (Element radio alpha2) = false
 
+-- a country element
 abbrev pub is_element : Last → Bool
 is_element Core = false
 is_element (User alpha2 intersected) = false

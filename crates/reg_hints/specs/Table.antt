@@ -55,6 +55,7 @@ hinted_code (User a) = a
 hinted_code (Driver r a) = a
 hinted_code (Element r a deaf) = a
 
+-- it comes from a driver
 abbrev pub is_drivers : Hint → Bool
 is_drivers (User a) = false
 is_drivers (Driver r a) = true

@@ -14,6 +14,7 @@ pub record Choice : Type 0 where
   pub rule : Rule
   pub width_khz : ℕ
 
+-- a rule with its place in the list, and the width that it allows
 pub record IsChoice (rules : List Rule) (c : Choice) : Type 0 where
   pub rule : slice_get rules c.number ≡ Some c.rule
   pub width : IsAllowedWidth rules c.number c.width_khz
@@ -34,10 +35,12 @@ IsBefore (c ∷ t) (e ∷ s) = (c.number < e.number) ⊎ ((c.number ≡ e.number
 abbrev pub check_ms : Rule → ℕ
 check_ms r = if r.flags.dfs then (if r.cac_s == 0 then LEAST_CHECK_MS else r.cac_s * 1000) else 0
 
+-- the greatest value over the list, and 0 for none
 abbrev pub greatest_by : {X : Type 0} → (X → ℕ) → List X → ℕ
 greatest_by f [] = 0
 greatest_by f (x ∷ xs) = max (f x) (greatest_by f xs)
 
+-- the least value over the list
 abbrev pub least_by : {X : Type 0} → (X → ℕ) → List X → ℕ
 least_by f [] = 0
 least_by f (x ∷ []) = f x

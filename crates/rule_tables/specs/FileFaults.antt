@@ -12,11 +12,13 @@ use Rattle.rule_tables.specs.declared.file_fault.DbFault.TheVariants.{Short, Bad
 
 -- ---- the header
 
+-- the file begins with the magic number and the version
 pub record HasHeader (b : List ℕ) : Type 0 where
   pub whole : 8 ≤ length b
   pub magic : u32_at b 0 ≡ 0x52474442
   pub version : u32_at b 4 ≡ 20
 
+-- what is wrong with the header: too short, another magic number, another version
 abbrev pub IsHeaderFault : List ℕ → DbFault → Type 0
 IsHeaderFault b (Short n) = (n ≡ length b) × (n < 8)
 IsHeaderFault b (BadMagic magic) = (8 ≤ length b) × (magic ≡ u32_at b 0) × (magic ≢ 0x52474442)
@@ -97,6 +99,7 @@ abbrev pub IsEntryFault : List ℕ → ℕ → DbFault → Type 0
 IsEntryFault b k fault = IsCodeFault b k fault
     ⊎ (HasNewCode b k × IsCollectionFault b (target_at b (entry_place k + 2)) (entry_code b (entry_place k)) fault)
 
+-- the entry at place k has some fault
 abbrev pub HasEntryFault : List ℕ → ℕ → Type 0
 HasEntryFault b k = (fault : DbFault) × IsEntryFault b k fault
 

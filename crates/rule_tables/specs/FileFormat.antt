@@ -18,9 +18,11 @@ use Rattle.rule_tables.specs.declared.domain.Domain.{Domain}
 abbrev pub u8_at : List ℕ → ℕ → ℕ
 u8_at b i = slice_index b i
 
+-- the big-endian number in the two bytes at this place
 abbrev pub u16_at : List ℕ → ℕ → ℕ
 u16_at b i = big_from i 2 b
 
+-- the big-endian number in the four bytes at this place
 abbrev pub u32_at : List ℕ → ℕ → ℕ
 u32_at b i = big_from i 4 b
 
@@ -32,6 +34,7 @@ target_at b i = 4 * u16_at b i
 abbrev pub has_bit : ℕ → ℕ → Bool
 has_bit byte bit = byte / bit % 2 == 1
 
+-- the flags that a byte of a rule sets
 abbrev pub flags_in : ℕ → RuleFlags
 flags_in byte = record {
   no_ofdm = has_bit byte 1;

@@ -11,6 +11,7 @@ region_number Fcc = 1
 region_number Etsi = 2
 region_number Jp = 3
 
+-- both are the same region, as a test
 abbrev pub is_same_region : Region → Region → Bool
 is_same_region one other = region_number one == region_number other
 
