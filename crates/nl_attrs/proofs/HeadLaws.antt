@@ -10,6 +10,7 @@ use Rattle.nl_attrs.specs.declared.attr.Attr.{Attr}
 use Rattle.nl_attrs.specs.declared.message.Msg.{Msg}
 use Rattle.nl_attrs.specs.declared.message.Msg.TheVariants.{Generic, Error, Done}
 use Rattle.nl_attrs.specs.inner.Heads.{IsHeadOf}
+use Rattle.nl_attrs.specs.inner.Reading.{IsntLong}
 use Rattle.nl_attrs.proofs.Lengths.{length-le32, length-attr_bytes, length-head_bytes, length-spelled}
 
 -- attributes that fit a message are short
@@ -31,10 +32,12 @@ head-front m =
 
 -- ---- the fields of each kind of message
 
-pub few_attrs : (m : Msg) (family flags seq pid cmd version : ℕ) (attrs : List Attr) → m ≡ Generic family flags seq pid cmd version attrs → length (spelled m) ≤ 65536 → length (attrs_bytes attrs) ≤ 65516
-few_attrs m family flags seq pid cmd version attrs is few =
-    let same = ap (λ (x : Msg). length (spelled x)) is ∙ length-generic family flags seq pid cmd version attrs in
-    omega (arith, same)
+pub isnt_long : (m : Msg) → length (spelled m) ≤ 65536 → IsntLong m
+isnt_long (Generic family flags seq pid cmd version attrs) few =
+    let len = length-generic family flags seq pid cmd version attrs in
+    omega arith
+isnt_long (Error flags seq pid code head) few = tt
+isnt_long (Done flags seq pid code) few = tt
 
 pub generic_head : (family flags seq pid cmd version n : ℕ) (attrs : List Attr) → n ≡ length (attrs_bytes attrs) → IsHeadOf (Generic family flags seq pid cmd version attrs) (record { length = 20 + n; kind = family; flags = flags; seq = seq; pid = pid })
 generic_head family flags seq pid cmd version n attrs is =

@@ -124,11 +124,12 @@ pub fn first_long(attrs: &[Attr]) -> Option<usize>
 /// How many bytes the attributes take. No more than 2^64 - 1 are counted.
 pub fn attrs_len(attrs: &[Attr]) -> u64
     requires { All IsShort attrs.now }
-    ensures { result ≡ min (length (attrs_bytes attrs.now)) (2 ^ 64 - 1) }
+    ensures sum { result ≡ min (length (attrs_bytes attrs.now)) (2 ^ 64 - 1) }
+    ensures bytes { All HasBytes attrs.now }
 {
     let mut sum = 0u64;
     for attr in attrs {
-        let length = HEADER + attr.payload.len();
+        let length = HEADER + byte_count(attr.payload.as_slice());
         sum = sum.saturating_add(aligned(length) as u64);
     }
     sum

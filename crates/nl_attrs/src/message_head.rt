@@ -3,6 +3,7 @@
 ghost use Rattle.std.specs.Prelude.{◌≡◌, ◌+◌, ◌<◌, ◌≤◌, ◌++◌, ℕ, List, length, take, MatchOption, IsSomeAnd};
 ghost use Rattle.nl_attrs.specs.Messages.{IsMsg, head_bytes, spelled};
 ghost use Rattle.nl_attrs.specs.inner.Heads.{IsHeadOf};
+ghost use Rattle.nl_attrs.specs.inner.Reading.{IsntLong};
 ghost use Rattle.nl_attrs.specs.declared.message.Msg.{Msg};
 
 use crate::attr_writer::attrs_len;
@@ -23,8 +24,8 @@ fn head_array(head: Head) -> [u8; HEAD]
 }
 
 /// What stands before the body of the message.
-fn fields_of(m: &Msg) -> Head
-    requires { length (spelled m.now) ≤ 65536 }
+pub fn fields_of(m: &Msg) -> Head
+    requires { IsntLong m.now }
     ensures { IsHeadOf m.now result }
 {
     match m {
