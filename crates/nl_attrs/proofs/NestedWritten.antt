@@ -44,3 +44,8 @@ nested_written old padded over before payload start n kind start-is old-is n-is 
 
     length_begun : (before : List ℕ) (kind : ℕ) (payload : List ℕ) → length (before ++ (begun_bytes kind ++ payload)) ≡ length before + (4 + length payload)
     length_begun before kind payload = simp (length-append, length-le16) (omega arith)
+
+-- two numbers more
+pub four_more : (old one two : List ℕ) (m n : ℕ) → one ≡ old ++ le16 m → two ≡ one ++ le16 n → length two ≡ length old + 4
+four_more old one two m n one-is two-is =
+    rw (two-is, one-is) (simp (length-append, length-le16) (omega arith))

@@ -33,6 +33,7 @@ pub fn begin_nested(out: &mut Bytes, kind: u16) -> Result<Nested, OutOfMemory>
     requires kind { kind < 16384 }
     ensures start { IfOk result (λ nested. nested ≡ length out.old) }
     ensures begun { OnOk result (out.new ≡ out.old ++ begun_bytes kind) }
+    ensures inside { IfOk result (λ nested. nested + 4 ≤ length out.new) }
 {
     let start = out.len();
     put_u16(out, 0)?;
