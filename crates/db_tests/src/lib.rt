@@ -1,8 +1,6 @@
-//! Tests of rule texts, database files and netlink messages, over their libraries.
+//! Tests of rule texts and database files, over their libraries.
 #![tactic(auto)]
 
-#[cfg(test)]
-mod messages;
 #[cfg(test)]
 mod read_files;
 #[cfg(test)]

@@ -15,3 +15,7 @@ pub mod StreamLaws
 pub mod Told
 pub mod Verdicts
 pub mod ByteLaws
+pub mod NestedWritten
+pub mod HeadLaws
+pub mod ReadNumbers
+pub mod TextLaws

@@ -7,11 +7,13 @@ use Rattle.std.proofs.lemmas.List.Concat.{flat_map-append}
 use Rattle.nl_attrs.specs.Endian.{AreBytes, le32}
 use Rattle.nl_attrs.specs.Attributes.{aligned, attr_bytes, attrs_bytes}
 use Rattle.nl_attrs.specs.Overlong.{IsShort, IsFirstLong, IsEncodeFault}
-use Rattle.nl_attrs.specs.inner.Reading.{HasBytes, IsSizeFault}
-use Rattle.nl_attrs.specs.Messages.{head_bytes, spelled, IsMsg}
+use Rattle.nl_attrs.specs.inner.Reading.{HasBytes, IsTooBig}
+use Rattle.nl_attrs.specs.inner.Heads.{IsHeadOf, headed_bytes}
+use Rattle.nl_attrs.specs.Messages.{head_bytes, body_of, spelled, IsMsg}
 use Rattle.nl_attrs.specs.declared.attr.Attr.{Attr}
-use Rattle.nl_attrs.specs.declared.fault.EncodeFault.{EncodeFault}
-use Rattle.nl_attrs.specs.declared.fault.EncodeFault.TheVariants.{Overlong, OutOfMemory}
+use Rattle.nl_attrs.specs.declared.fault.EncodeFault.TheVariants.{Overlong}
+use Rattle.nl_attrs.specs.declared.message.Head.{Head}
+use Rattle.nl_attrs.specs.declared.message.Msg.{Msg}
 use Rattle.nl_attrs.specs.declared.message.Msg.TheVariants.{Generic, Error, Done}
 use Rattle.nl_attrs.proofs.Lengths.{length-le32, length-attr_bytes, length-spelled}
 
@@ -76,12 +78,22 @@ generic_is family flags seq pid cmd version attrs family_fits flags_fit seq_fits
     }
 
 -- a message of a family has 20 bytes before its attributes
-pub size_fault : (fault : EncodeFault) (family flags seq pid cmd version : ℕ) (attrs : List Attr) → IsSizeFault attrs fault → IsEncodeFault (Generic family flags seq pid cmd version attrs) fault
-size_fault (Overlong n) family flags seq pid cmd version attrs is =
+pub too_big : (n : ℕ) (family flags seq pid cmd version : ℕ) (attrs : List Attr) → IsTooBig attrs n → IsEncodeFault (Generic family flags seq pid cmd version attrs) (Overlong n)
+too_big n family flags seq pid cmd version attrs is =
     elim is [
       | inl long ↦ inl long
       | inr message ↦
           let bytes : length (spelled (Generic family flags seq pid cmd version attrs)) ≡ 20 + length (attrs_bytes attrs) = rw length-spelled (omega arith) in
           inr (message.0, rw bytes message.1)
     ]
-size_fault OutOfMemory family flags seq pid cmd version attrs is = absurd is
+
+-- the head and the body are the message
+pub whole_written : (m : Msg) (head : Head) → IsHeadOf m head → headed_bytes head (body_of m) ≡ spelled m
+unfolding spelled
+whole_written m head is =
+    rw (is.length_is, is.kind_is, is.flags_is, is.seq_is, is.pid_is, length-spelled m) refl
+
+pub message_written : (m n : Msg) (head : Head) (out new body : List ℕ) → m ≡ n → IsHeadOf m head → new ≡ out ++ headed_bytes head body → body ≡ body_of n → new ≡ out ++ spelled m
+message_written m n head out new body m-is is e body-is =
+    let same : body ≡ body_of m = body-is ∙ ap body_of (sym m-is) in
+    e ∙ ap (λ (x : List ℕ). out ++ headed_bytes head x) same ∙ ap (λ (x : List ℕ). out ++ x) (whole_written m head is)

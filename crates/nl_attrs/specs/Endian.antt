@@ -16,9 +16,12 @@ le32 n = to_le_bytes w32 n
 unfoldable pub le64 : ℕ → List ℕ
 le64 n = to_le_bytes w64 n
 
--- the number in the two or four bytes from place i on
+-- the number in the two, four or eight bytes from place i on
 unfoldable pub le16_at : List ℕ → ℕ → ℕ
 le16_at b i = from_le_bytes w16 (take 2 (drop i b))
 
 unfoldable pub le32_at : List ℕ → ℕ → ℕ
 le32_at b i = from_le_bytes w32 (take 4 (drop i b))
+
+unfoldable pub le64_at : List ℕ → ℕ → ℕ
+le64_at b i = from_le_bytes w64 (take 8 (drop i b))

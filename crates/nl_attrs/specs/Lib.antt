@@ -1,6 +1,8 @@
 pub mod Endian
 pub mod Attributes
 pub mod Messages
+pub mod Payloads
+pub mod Nesting
 pub mod Walks
 pub mod Overlong
 pub mod Faults

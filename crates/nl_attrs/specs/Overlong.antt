@@ -10,6 +10,11 @@ use Rattle.nl_attrs.specs.declared.fault.EncodeFault.TheVariants as encode_fault
 abbrev pub IsShort : Attr → Type 0
 IsShort a = length a.payload ≤ 65531
 
+-- why an attribute can't be written; memory is taken where it has a spelling
+abbrev pub IsPutFault : List ℕ → List ℕ → Attr → EncodeFault → Type 0
+IsPutFault old new a (encode_faults.Overlong n) = (65531 < n) × (n ≡ length a.payload) × (new ≡ old)
+IsPutFault old new a encode_faults.OutOfMemory = IsAttr a
+
 -- n is the length of the first payload above 65,531 bytes
 pub record IsFirstLong (attrs : List Attr) (n : ℕ) : Type 0 where
   pub before : List Attr

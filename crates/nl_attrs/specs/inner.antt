@@ -1,2 +1,4 @@
 -- What private functions alone cite.
 pub mod Reading
+pub mod Texts
+pub mod Heads

@@ -1,53 +1,96 @@
 //! Writes attributes.
 
 ghost use Rattle.std.specs.Prelude.{◌≡◌, ◌+◌, ◌-◌, ◌<◌, ◌≤◌, ◌^◌, ◌++◌, length, min, replicate, All, IfOk, IfErr, IfNone, OnOk, OnErr, MatchOption};
-ghost use Rattle.nl_attrs.specs.Endian.{AreBytes};
+ghost use Rattle.nl_attrs.specs.Endian.{le16};
 ghost use Rattle.nl_attrs.specs.Attributes.{IsAttr, padding_length, kind_field, attr_bytes, attrs_bytes};
-ghost use Rattle.nl_attrs.specs.Overlong.{IsShort, IsFirstLong, IsListFault};
+ghost use Rattle.nl_attrs.specs.Payloads.{attr_with};
+ghost use Rattle.nl_attrs.specs.Overlong.{IsShort, IsFirstLong, IsListFault, IsPutFault};
 ghost use Rattle.nl_attrs.specs.inner.Reading.{HasBytes};
 
 use crate::attr::{Attr, HEADER, MOST_PAYLOAD, NESTED, aligned};
 use crate::fault::EncodeFault;
 use crate::lists::AttrList;
 use crate::numbers::put_u16;
+use crate::payloads::{Payload, byte_count, put_payload};
 use reg_base::Bytes;
 use reg_lists::OutOfMemory;
 use std::alloc::Global;
 
 /// The kind with its bit for nested.
-fn kind_field(attr: &Attr) -> u16
-    requires { attr.now.kind < 16384 }
-    ensures { result ≡ kind_field attr.now.kind attr.now.nested }
+fn kind_field(kind: u16, nested: bool) -> u16
+    requires { kind < 16384 }
+    ensures { result ≡ kind_field kind nested }
 {
-    if attr.nested {
-        attr.kind + NESTED
-    } else {
-        attr.kind
-    }
+    if nested { kind + NESTED } else { kind }
 }
 
-/// Writes zero bytes behind so many bytes, up to a multiple of 4.
-fn put_padding(out: &mut Bytes, length: usize) -> Result<(), OutOfMemory>
+/// Writes zero bytes behind so many bytes, up to a multiple of 4. `OutOfMemory` changes nothing.
+pub fn put_padding(out: &mut Bytes, length: usize) -> Result<(), OutOfMemory>
     requires { length ≤ 65531 }
-    ensures { OnOk result (out.new ≡ out.old ++ replicate (padding_length length) 0) }
+    ensures ok { OnOk result (out.new ≡ out.old ++ replicate (padding_length length) 0) }
+    ensures err { OnErr result (out.new ≡ out.old) }
 {
     let zeros = [0u8; 3];
     out.append(&zeros[..aligned(length) - length])?;
     Ok(())
 }
 
-/// Writes an attribute.
+/// Writes the header of an attribute whose payload has so many bytes.
+fn put_header(out: &mut Bytes, length: usize, field: u16) -> Result<(), OutOfMemory>
+    requires { length ≤ 65531 }
+    ensures { OnOk result (out.new ≡ out.old ++ (le16 (4 + length) ++ le16 field)) }
+{
+    put_u16(out, (HEADER + length) as u16)?;
+    put_u16(out, field)?;
+    Ok(())
+}
+
+/// Writes an attribute that has a spelling.
 #[tactic(auto, unfolding(crate::specs::Attributes::attr_bytes))]
-fn put_attr(out: &mut Bytes, attr: &Attr) -> Result<(), OutOfMemory>
+fn put_short(out: &mut Bytes, attr: &Attr) -> Result<(), OutOfMemory>
     requires kind { attr.now.kind < 16384 }
     requires short { IsShort attr.now }
     ensures { OnOk result (out.new ≡ out.old ++ attr_bytes attr.now) }
 {
     let payload = attr.payload.as_slice();
-    put_u16(out, (HEADER + payload.len()) as u16)?;
-    put_u16(out, kind_field(attr))?;
+    put_header(out, payload.len(), kind_field(attr.kind, attr.nested))?;
     out.append(payload)?;
     put_padding(out, payload.len())?;
+    Ok(())
+}
+
+/// Writes an attribute. The kind is below 16,384. `EncodeFault::Overlong` names the length of a
+/// payload above 65,531 bytes, and changes nothing.
+pub fn put_attr(out: &mut Bytes, attr: &Attr) -> Result<(), EncodeFault>
+    requires kind { attr.now.kind < 16384 }
+    ensures ok { OnOk result (out.new ≡ out.old ++ attr_bytes attr.now) }
+    ensures attr { OnOk result (IsAttr attr.now) }
+    ensures fault { IfErr result (IsPutFault out.old out.new attr.now) }
+{
+    let length = byte_count(attr.payload.as_slice());
+    if length > MOST_PAYLOAD {
+        return Err(EncodeFault::Overlong(length as u64));
+    }
+    put_short(out, attr)?;
+    Ok(())
+}
+
+/// Writes an attribute that holds no others. The kind is below 16,384. `EncodeFault::Overlong`
+/// names the length of a payload above 65,531 bytes, and changes nothing.
+#[tactic(auto, unfolding(crate::specs::Attributes::attr_bytes))]
+pub fn put_plain(out: &mut Bytes, kind: u16, payload: Payload<'_>) -> Result<(), EncodeFault>
+    requires kind { kind < 16384 }
+    ensures ok { OnOk result (out.new ≡ out.old ++ attr_bytes (attr_with kind payload.entry)) }
+    ensures attr { OnOk result (IsAttr (attr_with kind payload.entry)) }
+    ensures fault { IfErr result (IsPutFault out.old out.new (attr_with kind payload.entry)) }
+{
+    let length = payload.len();
+    if length > MOST_PAYLOAD {
+        return Err(EncodeFault::Overlong(length as u64));
+    }
+    put_header(out, length, kind)?;
+    put_payload(out, payload)?;
+    put_padding(out, length)?;
     Ok(())
 }
 
@@ -59,17 +102,9 @@ pub fn put_attrs(out: &mut Bytes, attrs: &[Attr]) -> Result<(), OutOfMemory>
     ensures err { OnErr result (0 < length attrs.now) }
 {
     for attr in attrs {
-        put_attr(out, attr)?;
+        put_short(out, attr)?;
     }
     Ok(())
-}
-
-/// How many bytes there are.
-fn byte_count(bytes: &[u8]) -> usize
-    ensures count { result ≡ length bytes.now }
-    ensures bytes { AreBytes bytes.now }
-{
-    bytes.len()
 }
 
 /// The length of the first payload that is too long.
@@ -89,11 +124,12 @@ pub fn first_long(attrs: &[Attr]) -> Option<usize>
 /// How many bytes the attributes take. No more than 2^64 - 1 are counted.
 pub fn attrs_len(attrs: &[Attr]) -> u64
     requires { All IsShort attrs.now }
-    ensures { result ≡ min (length (attrs_bytes attrs.now)) (2 ^ 64 - 1) }
+    ensures sum { result ≡ min (length (attrs_bytes attrs.now)) (2 ^ 64 - 1) }
+    ensures bytes { All HasBytes attrs.now }
 {
     let mut sum = 0u64;
     for attr in attrs {
-        let length = HEADER + attr.payload.len();
+        let length = HEADER + byte_count(attr.payload.as_slice());
         sum = sum.saturating_add(aligned(length) as u64);
     }
     sum

@@ -7,9 +7,8 @@ use Rattle.nl_attrs.specs.Faults.{length_at, type_at, length_fault, type_fault, 
 use Rattle.nl_attrs.specs.Overlong.{IsShort, IsFirstLong, IsTooLong}
 use Rattle.nl_attrs.specs.declared.attr.Attr.{Attr}
 use Rattle.nl_attrs.specs.declared.message.Msg.{Msg}
+use Rattle.nl_attrs.specs.declared.message.Msg.TheVariants.{Generic, Error, Done}
 use Rattle.nl_attrs.specs.declared.fault.AttrFault.TheVariants.{Truncated, BadLength, Overlong, BadType, BadAttr}
-use Rattle.nl_attrs.specs.declared.fault.EncodeFault.{EncodeFault}
-use Rattle.nl_attrs.specs.declared.fault.EncodeFault.TheVariants as encode_faults
 use Rattle.nl_attrs.specs.declared.fault.NextFault.{NextFault}
 use Rattle.nl_attrs.specs.declared.fault.NextFault.TheVariants as next_faults
 
@@ -65,9 +64,18 @@ pub record TakesMessage (held : List ℕ) (m : Msg) (n : ℕ) : Type 0 where
   pub within : n ≤ length held
   pub front : held ≡ spelled m ++ drop n held
 
--- why a message of a family with these attributes can't be written: the first payload that is too long, or else the
--- message, whose attributes stand behind 20 bytes
-abbrev pub IsSizeFault : List Attr → EncodeFault → Type 0
-IsSizeFault attrs (encode_faults.Overlong n) =
-    IsFirstLong attrs n ⊎ (All IsShort attrs × IsTooLong (20 + length (attrs_bytes attrs)) n)
-IsSizeFault attrs encode_faults.OutOfMemory = ⊥
+-- what is too long of a message of a family with these attributes: the first payload that is, or else the message,
+-- whose attributes stand behind 20 bytes
+abbrev pub IsTooBig : List Attr → ℕ → Type 0
+IsTooBig attrs n = IsFirstLong attrs n ⊎ (All IsShort attrs × IsTooLong (20 + length (attrs_bytes attrs)) n)
+
+-- the attributes of a message of a family fit it
+pub record FitMessage (attrs : List Attr) : Type 0 where
+  pub few : 20 + length (attrs_bytes attrs) ≤ 65536
+  pub bytes : All HasBytes attrs
+
+-- the message is one of a family that isn't too long, or another
+abbrev pub IsntLong : Msg → Type 0
+IsntLong (Generic family flags seq pid cmd version attrs) = 20 + length (attrs_bytes attrs) ≤ 65536
+IsntLong (Error flags seq pid code head) = Unit {0}
+IsntLong (Done flags seq pid code) = Unit {0}

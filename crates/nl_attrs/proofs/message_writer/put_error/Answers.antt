@@ -2,12 +2,12 @@ use Rattle.std.proofs.Common.{append_assoc, arith}
 use Rattle.std.specs.Int.{w32}
 use Rattle.std.proofs.lemmas.Int.{to_z-of_z}
 use Rattle.nl_attrs.proofs.Places.{bytes_from}
-use Rattle.nl_attrs.proofs.Written.{error_bytes, error_is}
+use Rattle.nl_attrs.proofs.Written.{error_is}
 use Rattle.nl_attrs.proofs.message_writer.put_error.Goals as goal
 
 pub returns-clause-bytes : goal.returns-clause-bytes
 returns-clause-bytes c =
-    rw (c.in_ok-append.ensures.ok, c.in_ok-put_i32.ensures, c.in_ok-put_head.ensures, to_z-of_z w32 c.args.code c.ranges.code, ← error_bytes _ _ _ _ _ c.requires) (simp append_assoc)
+    rw (c.in_ok-append.ensures.ok, c.in_ok-put_i32.ensures, c.in_ok-put_head.ensures, to_z-of_z w32 c.args.code c.ranges.code) (simp append_assoc)
 
 pub returns-clause-message : goal.returns-clause-message
 returns-clause-message c =

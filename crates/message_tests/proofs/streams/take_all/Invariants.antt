@@ -1,5 +1,5 @@
 use Rattle.std.proofs.Common.{◌≡◌, ◌+◌, length}
-use Rattle.db_tests.proofs.messages.take_all.Given as goal
+use Rattle.message_tests.proofs.streams.take_all.Given as goal
 
 -- what is taken is no longer held
 abbrev pub invariant-taking : goal.invariant-taking

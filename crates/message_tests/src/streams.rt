@@ -4,8 +4,7 @@ ghost use Rattle.std.specs.Prelude.{◌≡◌, ◌+◌, ◌<◌, ◌≤◌, leng
 ghost use Rattle.nl_attrs.specs.Messages.{IsInRange};
 
 use nl_attrs::{
-    Attr, AttrFault, AttrList, AttrsFault, Decoder, EncodeFault, Msg, MsgList, NextFault,
-    attrs_bytes, attrs_of, encode,
+    Attr, AttrFault, AttrList, Decoder, EncodeFault, Msg, MsgList, NextFault, Payload, encode,
 };
 use reg_base::Bytes;
 use std::alloc::Global;
@@ -97,13 +96,7 @@ const ANSWERS: [u8; 56] = [
 fn spellings(rt: HostRuntime) -> Result<(), Fail> {
     let alloc = rt.alloc();
     let mut attrs = AttrList::new(alloc);
-    let mut payload = Bytes::new(alloc);
-    payload.append(b"US\0")?;
-    attrs.push(Attr {
-        kind: 0x21,
-        nested: false,
-        payload,
-    })?;
+    attrs.push(Attr::new(alloc, 0x21, Payload::Text(b"US"))?)?;
     let set_reg = Msg::Generic {
         family: 32,
         flags: 5,
@@ -216,34 +209,6 @@ fn a_fault_stays(rt: HostRuntime) -> Result<(), Fail> {
     assert!(rt; matches!(decoder.next(), Err(NextFault::Bad(AttrFault::BadAttr(20)))));
     assert!(rt; decoder.finish() == Err(fault));
     assert!(rt; decoder.taken() == 0);
-    Ok(())
-}
-
-#[test]
-fn attributes(rt: HostRuntime) -> Result<(), Fail> {
-    let alloc = rt.alloc();
-    let two = [9, 0, 1, 0x80, 5, 0, 2, 0, 7, 0, 0, 0, 4, 0, 0xff, 0x3f];
-    let list = attrs_of(alloc, &two)?;
-    assert!(rt; list.len() == 2);
-    assert!(rt; attrs_bytes(alloc, &list)?.as_slice() == two.as_slice());
-    if let Some(attr) = list.get(0) {
-        assert!(rt; (attr.kind, attr.nested) == (1, true));
-        assert!(rt; attr.payload.as_slice() == [5, 0, 2, 0, 7].as_slice());
-        assert!(rt; attrs_of(alloc, attr.payload.as_slice()).err() == Some(AttrsFault::BadAttr(0)));
-    }
-    let table: [(&[u8], u64); 6] = [
-        // Bit 14 of the kind, a length of 3, and one past the end with its padding.
-        (&[4, 0, 0, 0x40], 0),
-        (&[4, 0, 1, 0, 3, 0, 2, 0], 4),
-        (&[4, 0, 1, 0, 5, 0, 2, 0, 7, 0, 0], 4),
-        // Padding that isn't zero, and headers that aren't whole.
-        (&[5, 0, 2, 0, 7, 0, 1, 0], 0),
-        (&[5, 0, 2, 0, 7, 0, 0, 0, 4, 0, 1], 8),
-        (&[0], 0),
-    ];
-    for (payload, place) in table {
-        assert!(rt; attrs_of(alloc, payload).err() == Some(AttrsFault::BadAttr(place)));
-    }
     Ok(())
 }
 

@@ -1,5 +1,5 @@
 use Rattle.std.proofs.Common.{◌≤◌, ◌+◌, length}
-use Rattle.db_tests.proofs.messages.byte_by_byte.Given as goal
+use Rattle.message_tests.proofs.streams.byte_by_byte.Given as goal
 
 abbrev pub invariant-loop-byte : goal.invariant-loop-byte
 invariant-loop-byte l = l.decoder.taken + length l.decoder.held ≤ l.byte-index
