@@ -9,4 +9,5 @@ pub mod PrintedText
 pub mod PrintedWmm
 pub mod PrintedWords
 pub mod SameWmm
+pub mod ShownRules
 pub mod Uses

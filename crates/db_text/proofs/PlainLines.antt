@@ -23,7 +23,7 @@ pub record Prints (piece squeezed : List ℕ) (n : ℕ) : Type 0 where
   pub solid : solid piece ≡ squeezed
   pub short : length piece ≤ n
 
-both : (a b : Bool) → a ≡ true → b ≡ true → (a && b) ≡ true
+pub both : (a b : Bool) → a ≡ true → b ≡ true → (a && b) ≡ true
 both true true p q = refl
 both true false p q = q
 both false b p q = p

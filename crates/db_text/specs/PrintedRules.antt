@@ -1,11 +1,18 @@
 -- How the line of a rule is printed.
-use Rattle.std.specs.Prelude.{ℕ, Bool, List, [], ◌++◌, Option, Some, None, codes, if◌then◌else◌}
+use Rattle.std.specs.Prelude.{◌≢◌, ℕ, ◌≤◌, Bool, List, [], ◌++◌, Option, Some, None, codes, if◌then◌else◌}
 use Rattle.freq_range.specs.declared.flags.RuleFlags.{RuleFlags}
 use Rattle.freq_range.specs.declared.rule.Rule.{Rule}
 use Rattle.text_lines.specs.declared.form.Flag.{Flag}
 use Rattle.text_lines.specs.declared.form.Flag.TheVariants.{NoOfdm, NoOutdoor, Dfs, NoIr, AutoBw}
 use Rattle.db_text.specs.PrintedNumbers.{dbm_text, decimal_mhz_text}
 use Rattle.text_lines.specs.Spelling.{flag_name}
+
+-- a blank, or a byte of ASCII that shows, but neither `;` nor `#`
+pub record IsShownByte (byte : ℕ) : Type 0 where
+  pub from_blank : 32 ≤ byte
+  pub to_tilde : byte ≤ 126
+  pub no_semicolon : byte ≢ 59
+  pub no_hash : byte ≢ 35
 
 -- a flag that is set, behind a comma and a blank
 abbrev pub flag_part : Bool → Flag → List ℕ

@@ -12,6 +12,6 @@ mod wmm_printer;
 pub use laws::printed_text_reads_back;
 pub use print_fault::PrintFault;
 pub use printer::print;
-pub use rule_printer::print_rule;
+pub use rule_printer::{print_rule, put_flags};
 pub use rule_text::{ParseFault, TextFault, one_answer, parse};
-pub use text_lines::{RuleTextFault, TextKind, parse_rule};
+pub use text_lines::{RuleTextFault, TextKind, one_rule, parse_rule};

@@ -1,9 +1,6 @@
 -- Each line either is good, with some form, or has a fault: the first kind that applies.
 use Rattle.std.proofs.Common.{◌≡◌, ◌≢◌, ℕ, ◌<◌, ◌⊎◌, List, [], ◌∷◌, length, Contains, Option, Some, None, IsUtf8, arith, refl, sym, subst, ◌∙◌, ap, inl, inr}
-use Rattle.std.specs.Str.{is_utf8}
-use Rattle.std.proofs.lemmas.Bool.{cases_Bool}
 use Rattle.std.proofs.lemmas.Option.{none-some}
-use Rattle.std.proofs.lemmas.Str.{IsUtf8-from_is_utf8, is_utf8-from_IsUtf8}
 use Rattle.freq_range.proofs.Members.{Contains-cases, Contains-head, Contains-nothing}
 use Rattle.freq_range.specs.declared.rule.Rule.{Rule}
 use Rattle.freq_range.specs.declared.wmm.Wmm.{Wmm}
@@ -24,6 +21,7 @@ use Rattle.rule_text.specs.Forms.Form.{Country, Empty, ItemLine, RuleLine, WmmHe
 use Rattle.text_lines.specs.Lines.{bare}
 use Rattle.text_lines.specs.Spelling.{IsHeader, IsItemLine, IsRuleLine, IsSpelledRule, IsWmmHeader, Opens, RuleText, list_of, names_in}
 use Rattle.rule_text.specs.inner.State.{IsBareFault}
+use Rattle.text_lines.proofs.KindPlaces.{told_utf8}
 use Rattle.rule_text.proofs.Contexts.{told_contradicted, told_has_item, told_in_countries, told_in_wmm, told_too_many}
 use Rattle.rule_text.proofs.EmptyLines.{empty_good}
 use Rattle.freq_range.proofs.Deciding.{Told, told_any, told_lt}
@@ -176,12 +174,6 @@ judge_bare above [] = inl (Empty, refl, empty_good above)
 judge_bare above (b ∷ bs) = elim (decide_opening (b ∷ bs)) [
   | inl opening ↦ judge_opened above (b ∷ bs) opening.0 opening.1
   | inr none ↦ inr (BadLine, unopened above (b ∷ bs) (λ e. cc) none)
-]
-
-told_utf8 : (line : List ℕ) → Told (IsUtf8 line)
-told_utf8 line = elim (cases_Bool (is_utf8 line)) [
-  | inl is ↦ inl (IsUtf8-from_is_utf8 line is)
-  | inr broken ↦ inr (λ utf8. let e = is_utf8-from_IsUtf8 line utf8 in cc)
 ]
 
 -- what is wrong with a line, but for its length and its bytes, is so without its comment and blanks

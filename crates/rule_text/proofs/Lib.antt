@@ -16,6 +16,7 @@ pub mod LineLaws
 pub mod NamedBlocks
 pub mod OneAnswer
 pub mod ReadSoFar
+pub mod ReadableFront
 pub mod Ready
 pub mod RuleLaws
 pub mod RuleTaken

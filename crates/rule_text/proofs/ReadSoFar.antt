@@ -10,6 +10,7 @@ use Rattle.rule_text.specs.Faults.{AreAccepted, IsLineFault}
 use Rattle.rule_text.specs.Forms.{Form}
 use Rattle.text_lines.specs.Lines.{text_lines}
 use Rattle.rule_text.specs.inner.State.{AreRead, AreSound, IsLineStop, ParserStands, TakesLine, fault_at}
+use Rattle.rule_text.proofs.ReadableFront.{begins_readable}
 use Rattle.rule_text.proofs.Unique.{length_accepted, sound_from_accepted}
 use Rattle.rule_text.specs.TextOf.{IsParseFault, IsTextFault}
 
@@ -91,7 +92,8 @@ not_taken text bytes line rest number parser kind so_far cut fault =
 pub stopped : (text bytes line : List ℕ) (rest : List (List ℕ)) (number : ℕ) (parser : Parser) (stop : LineStop) (so_far : ReadSoFar text (Some bytes) number parser)
     → text_lines bytes ≡ line ∷ rest → IsLineStop so_far.forms line stop → IsParseFault text (fault_at stop (number + 1))
 stopped text bytes line rest number parser (Kind kind) so_far cut stop = not_taken text bytes line rest number parser kind so_far cut stop
-stopped text bytes line rest number parser OutOfMemory so_far cut stop = tt
+stopped text bytes line rest number parser OutOfMemory so_far cut stop =
+    begins_readable text so_far.seen line rest so_far.forms (so_far.lines ∙ ap (λ ls. so_far.seen ++ ls) cut) so_far.accepted stop
 
 -- what a cut leaves, whether or not a newline ended the line
 pub cut_lines : (text line : List ℕ) (rest : Option (Bor (List ℕ))) → MatchOption rest (text_lines text ≡ line ∷ []) (λ r. text_lines text ≡ line ∷ text_lines r.now)

@@ -1,5 +1,5 @@
 -- Accepted lines have one list of forms, and a line one fault.
-use Rattle.std.proofs.Common.{◌≡◌, ◌≢◌, ℕ, zero, suc, ◌<◌, ◌≤◌, ◌==◌, ◌⊎◌, List, [], ◌∷◌, ◌++◌, length, get_or, take, reverse, Contains, arith, add-one, refl, sym, subst, ◌∙◌, ap, inl, inr, if◌then◌else◌}
+use Rattle.std.proofs.Common.{◌≡◌, ◌≢◌, ℕ, zero, suc, ◌<◌, ◌≤◌, ◌⊎◌, List, [], ◌∷◌, ◌++◌, length, get_or, take, reverse, Contains, arith, add-one, refl, sym, subst, ◌∙◌, ap, inl, inr}
 use Rattle.std.proofs.lemmas.Bool.{cases_eq, cases_order}
 use Rattle.std.proofs.lemmas.List.{reverse-append, take_more}
 use Rattle.freq_range.proofs.Members.{Contains-nothing}
@@ -8,8 +8,9 @@ use Rattle.rule_tables.specs.declared.code.Alpha2.{Alpha2}
 use Rattle.rule_tables.specs.declared.code.Region.{Region}
 use Rattle.rule_tables.specs.declared.code.Region.TheVariants.{Unset, Fcc, Etsi, Jp}
 use Rattle.text_lines.specs.declared.fault.TextKind.{TextKind}
-use Rattle.text_lines.specs.declared.fault.TextKind.TheVariants.{LineTooLong, NotUtf8, BadLine, NoBlock, BadCountry, BadRegion, RegionDiffers, BadBand, BadPower, BadFlag, FlagNotInVersion, NoWmm, BadWmm, WmmTwice, TooManyRules, WmmShort, NoRules}
+use Rattle.text_lines.specs.declared.fault.TextKind.TheVariants.{RegionDiffers}
 use Rattle.text_lines.specs.LineFaults.{place_of_kind}
+use Rattle.text_lines.proofs.KindPlaces.{same_place}
 use Rattle.rule_text.specs.Faults.{AreAccepted, IsGoodLine, IsLineFault}
 use Rattle.rule_text.specs.Forms.{Form, IsForm, NamesCode}
 use Rattle.rule_text.specs.Forms.Form.{Country, Empty, ItemLine, RuleLine, WmmHeader}
@@ -17,38 +18,6 @@ use Rattle.text_lines.specs.Lines.{bare}
 use Rattle.rule_text.specs.inner.State.{AreSound}
 use Rattle.rule_text.proofs.FormLaws.{Names-cases, same_header}
 use Rattle.rule_text.proofs.LineForms.{IsForm-unique}
-
--- ---- kinds by their places
-
-kind_at : ℕ → TextKind
-kind_at n =
-    if n == 1 then LineTooLong else if n == 2 then NotUtf8 else if n == 3 then BadLine else if n == 4 then NoBlock else if n == 5 then BadCountry
-    else if n == 6 then BadRegion else if n == 7 then RegionDiffers else if n == 8 then BadBand else if n == 9 then BadPower
-    else if n == 10 then BadFlag else if n == 11 then FlagNotInVersion else if n == 12 then NoWmm else if n == 13 then BadWmm
-    else if n == 14 then WmmTwice else if n == 15 then TooManyRules else if n == 16 then WmmShort else NoRules
-
-kind_back : (kind : TextKind) → kind_at (place_of_kind kind) ≡ kind
-unfolding kind_at
-kind_back LineTooLong = refl
-kind_back NotUtf8 = refl
-kind_back BadLine = refl
-kind_back NoBlock = refl
-kind_back BadCountry = refl
-kind_back BadRegion = refl
-kind_back RegionDiffers = refl
-kind_back BadBand = refl
-kind_back BadPower = refl
-kind_back BadFlag = refl
-kind_back FlagNotInVersion = refl
-kind_back NoWmm = refl
-kind_back BadWmm = refl
-kind_back WmmTwice = refl
-kind_back TooManyRules = refl
-kind_back WmmShort = refl
-kind_back NoRules = refl
-
-pub same_place : (a b : TextKind) → place_of_kind a ≡ place_of_kind b → a ≡ b
-same_place a b same = sym (kind_back a) ∙ ap kind_at same ∙ kind_back b
 
 -- a line has one fault
 pub IsLineFault-unique : (above : List Form) (line : List ℕ) (a b : TextKind) → IsLineFault above line a → IsLineFault above line b → a ≡ b

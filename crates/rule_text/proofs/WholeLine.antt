@@ -38,7 +38,7 @@ whole_stop above line (Kind kind) readable is = record {
   applies = bare_applies above line kind is.applies;
   first = λ other less applies. is.first other less (applies_bare above line other readable applies);
 }
-whole_stop above line OutOfMemory readable is = tt
+whole_stop above line OutOfMemory readable is = readable
 
 -- no kind comes before the first; only the first comes before the second
 none_before_long : (other : TextKind) → place_of_kind other < 1 → ⊥

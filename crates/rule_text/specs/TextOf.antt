@@ -15,7 +15,7 @@ use Rattle.text_lines.specs.declared.fault.TextKind.TheVariants.{WmmShort, NoRul
 use Rattle.rule_text.specs.Faults.{AreAccepted, IsLineFault}
 use Rattle.rule_text.specs.Forms.{Form, NamesCode, form_at, rules_of, wmm_of_name}
 use Rattle.rule_text.specs.Forms.Form.{Country, WmmHeader}
-use Rattle.text_lines.specs.Lines.{text_lines}
+use Rattle.text_lines.specs.Lines.{IsReadableLine, text_lines}
 
 -- the domain has the code and the region of headers, and the rules of that code, each once
 pub record IsDomainOf (forms : List Form) (d : Domain) : Type 0 where
@@ -62,7 +62,12 @@ pub record IsFirstShort (text : List ℕ) (k : ℕ) (kind : TextKind) : Type 0 w
 abbrev pub IsTextFault : List ℕ → TextFault → Type 0
 IsTextFault text fault = (k : ℕ) × (fault.line ≡ k + 1) × (IsFirstFault text k fault.kind ⊎ IsFirstShort text k fault.kind)
 
--- why a text gives no database
+-- the first line of the text is readable
+abbrev pub BeginsReadable : List ℕ → Type 0
+BeginsReadable text = IsReadableLine (slice_index_or (text_lines text) 0 [])
+
+-- Why a text gives no database. Memory is asked for only where the first line is readable, so `LineTooLong` and `NotUtf8`
+-- of the first line are told without it.
 abbrev pub IsParseFault : List ℕ → ParseFault → Type 0
 IsParseFault text (Text fault) = IsTextFault text fault
-IsParseFault text OutOfMemory = Unit {0}
+IsParseFault text OutOfMemory = BeginsReadable text

@@ -66,7 +66,7 @@ fn read_lines(alloc: Global, text: &[u8]) -> Result<Parser, ParseFault>
 
 /// The database that the text stands for, or the fault of its first faulty line; where no line is
 /// faulty, that of the first header that is left short: a WMM rule without all its items, or a
-/// country without rules.
+/// country without rules. Out of memory comes only where the first line is readable.
 pub fn parse(alloc: Global, text: &[u8]) -> Result<Db, ParseFault>
     ensures stands_for { MatchResult result (λ db. TextOf text.now db) (IsParseFault text.now) }
 {

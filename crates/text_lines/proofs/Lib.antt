@@ -7,13 +7,16 @@ pub mod Decimals
 pub mod Digits
 pub mod Gathering
 pub mod Items
+pub mod KindPlaces
 pub mod Lists
 pub mod Milliwatts
 pub mod Names
 pub mod Openings
+pub mod OneRule
 pub mod PowerTexts
 pub mod RuleTexts
 pub mod Solid
+pub mod ValidSpelled
 pub mod Values
 pub mod WordTexts
 pub mod Words

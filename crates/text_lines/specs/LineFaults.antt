@@ -11,7 +11,7 @@ use Rattle.text_lines.specs.declared.fault.RuleTextFault.TheVariants.{Kind as Ru
 use Rattle.text_lines.specs.declared.fault.TextKind.{TextKind}
 use Rattle.text_lines.specs.declared.fault.TextKind.TheVariants.{LineTooLong, NotUtf8, BadLine, NoBlock, BadCountry, BadRegion, RegionDiffers, BadBand, BadPower, BadFlag, FlagNotInVersion, NoWmm, BadWmm, WmmTwice, TooManyRules, WmmShort, NoRules}
 use Rattle.text_lines.specs.declared.form.Opening.TheVariants.{Rule as OfRule}
-use Rattle.text_lines.specs.Lines.{bare}
+use Rattle.text_lines.specs.Lines.{IsReadableLine, bare}
 use Rattle.text_lines.specs.Spelling.{BeginsWithBand, BeginsWithPower, HasCodes, IsHeader, IsKeptWord, IsRuleLine, IsSpelledRule, Opens, RuleText, names_in}
 
 -- the place of a kind in the list
@@ -101,7 +101,8 @@ pub record IsTextOfRule (line : List ℕ) (rule : Rule) : Type 0 where
   pub is : IsRuleLine (bare line) rule None
   pub good : (kind : TextKind) → AppliesToRule line kind → ⊥
 
--- why a text gives no rule
+-- Why a text gives no rule. Memory is asked for only where the line is readable, so `LineTooLong` and `NotUtf8` are told
+-- without it.
 abbrev pub IsParseRuleFault : List ℕ → RuleTextFault → Type 0
 IsParseRuleFault text (RuleKind kind) = IsRuleTextFault text kind
-IsParseRuleFault text NoMemory = Unit {0}
+IsParseRuleFault text NoMemory = IsReadableLine text

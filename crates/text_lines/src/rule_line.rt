@@ -1,6 +1,7 @@
 //! Reads one rule that stands for itself.
 
-ghost use Rattle.std.specs.Prelude.{MatchResult};
+ghost use Rattle.std.specs.Prelude.{◌≡◌, IfOk, MatchResult, None};
+ghost use Rattle.freq_range.specs.Valid.{IsValidRule};
 ghost use Rattle.text_lines.specs.LineFaults.{IsParseRuleFault, IsTextOfRule};
 ghost use Rattle.text_lines.specs.inner.Reading.{IsBareKind, IsBareRule};
 
@@ -29,13 +30,16 @@ fn bare_rule_of(line: &[u8]) -> Result<Rule, TextKind>
 }
 
 /// The rule that a line of a rule text (`db.txt` of wireless-regdb) says, without `wmmrule=`. A
-/// comment and blanks are dropped.
+/// comment and blanks are dropped. The rule is valid, and has no check time and no WMM rule.
 ///
-/// Otherwise the fault is out of memory, or the first of these kinds: `LineTooLong`, `NotUtf8`,
-/// `BadLine` where the line isn't a rule's, `BadBand`, `BadPower`, `BadFlag`, also for `wmmrule=`, and
-/// `FlagNotInVersion`.
+/// Otherwise the fault is the first of these kinds: `LineTooLong`, `NotUtf8`, `BadLine` where the line
+/// isn't a rule's, `BadBand`, `BadPower`, `BadFlag`, also for `wmmrule=`, and `FlagNotInVersion`. Behind
+/// the first two it may be out of memory.
 pub fn parse_rule(alloc: Global, text: &[u8]) -> Result<Rule, RuleTextFault>
     ensures rule { MatchResult result (λ rule. IsTextOfRule text.now rule) (IsParseRuleFault text.now) }
+    ensures valid { IfOk result IsValidRule }
+    ensures no_time { IfOk result (λ rule. rule.cac_s ≡ 0) }
+    ensures no_wmm { IfOk result (λ rule. rule.wmm ≡ None) }
 {
     readable(text)?;
     let mut buffer = Vec::new(alloc);

@@ -21,7 +21,7 @@ use Rattle.rule_tables.specs.declared.domain.Domain.{Domain}
 use Rattle.rule_text.specs.declared.fault.ParseFault.{ParseFault}
 use Rattle.rule_text.specs.declared.fault.ParseFault.TheVariants.{Text, OutOfMemory as NoMemory}
 use Rattle.rule_text.specs.declared.fault.TextFault.{TextFault}
-use Rattle.text_lines.specs.Lines.{text_lines}
+use Rattle.text_lines.specs.Lines.{IsReadableLine, text_lines}
 use Rattle.rule_text.specs.TextOf.{IsShortAt}
 use Rattle.text_lines.specs.LineFaults.{place_of_kind}
 use Rattle.rule_text.specs.Faults.{AreAccepted, HasTooManyRules, IsContradicted, IsGoodLine, IsLineFault, IsWrong}
@@ -217,7 +217,7 @@ IsAddAllStop forms cs OutOfMemory = Unit {0}
 -- why a line wasn't taken
 abbrev pub IsLineStop : List Form → List ℕ → LineStop → Type 0
 IsLineStop above line (Kind kind) = IsLineFault above line kind
-IsLineStop above line OutOfMemory = Unit {0}
+IsLineStop above line OutOfMemory = IsReadableLine line
 
 -- the line was taken
 pub record TakesLine (above : List Form) (line : List ℕ) (parser : Parser) : Type 0 where

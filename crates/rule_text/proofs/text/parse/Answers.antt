@@ -1,3 +1,5 @@
+use Rattle.std.proofs.lemmas.Result.{err_from_is_err_and}
+use Rattle.rule_text.proofs.ReadableFront.{all_readable}
 use Rattle.rule_text.proofs.WholeText.{AreLists, late_text, ready_text, text_stands}
 use Rattle.rule_text.proofs.text.parse.Goals as goal
 
@@ -38,3 +40,18 @@ returns c =
       stands_for = text_stands c.args.text.now c.in_ok-countries.field-0 c.in_ok-countries-2.countries.items c.in_ok-blocks.blocks.items c.in_ok-assemble.field-0 c.in_ok-countries.ensures lists
           (rw (c.as_slice.ensures.value, c.as_slice-2.ensures.value) at c.in_default.ensures.first) c.in_ok-assemble.ensures;
     }
+
+pub returns-in_err-countries-2 : goal.returns-in_err-countries-2
+returns-in_err-countries-2 c =
+    let p = err_from_is_err_and c.from_residual-in_err-countries-2.result c.from_residual-in_err-countries-2.ensures.1 in
+    rw (p.1, p.2) (record { stands_for = all_readable c.args.text.now c.in_ok-countries.ensures.forms c.in_ok-countries.ensures.accepted })
+
+pub returns-in_err-blocks : goal.returns-in_err-blocks
+returns-in_err-blocks c =
+    let p = err_from_is_err_and c.from_residual-in_err-blocks.result c.from_residual-in_err-blocks.ensures.1 in
+    rw (p.1, p.2) (record { stands_for = all_readable c.args.text.now c.in_ok-countries.ensures.forms c.in_ok-countries.ensures.accepted })
+
+pub returns-in_err-assemble : goal.returns-in_err-assemble
+returns-in_err-assemble c =
+    let p = err_from_is_err_and c.from_residual-in_err-assemble.result c.from_residual-in_err-assemble.ensures.1 in
+    rw (p.1, p.2) (record { stands_for = all_readable c.args.text.now c.in_ok-countries.ensures.forms c.in_ok-countries.ensures.accepted })
