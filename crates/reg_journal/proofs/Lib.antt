@@ -9,3 +9,15 @@ pub mod Splitting
 pub mod ToldStates
 pub mod Permitting
 pub mod Starting
+pub mod Splits
+pub mod Homes
+pub mod Later
+pub mod LastCheck
+pub mod Listed
+pub mod Operations
+pub mod Operating
+pub mod Radios
+pub mod Lasting
+pub mod Judged
+pub mod Swept
+pub mod Indexes
