@@ -21,3 +21,10 @@ pub mod Lasting
 pub mod Judged
 pub mod Swept
 pub mod Indexes
+pub mod Ranges
+pub mod Keeping
+pub mod Ending
+pub mod Regular
+pub mod RulesGo
+pub mod PowersGo
+pub mod EachRegular

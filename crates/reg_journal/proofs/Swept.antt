@@ -44,28 +44,28 @@ IsSweptOn f j = ⊥
 
 -- ---- one fact of a sweep
 
-swept_on : (db : List Domain) (J : Journal) (x : Iface) (f : Fact) → Awaits db J x (Some f) → IsSweptOn f x.index
+pub swept_on : (db : List Domain) (J : Journal) (x : Iface) (f : Fact) → Awaits db J x (Some f) → IsSweptOn f x.index
 swept_on db J x (stopped i) awaits = awaits.0
 swept_on db J x (powered i power) awaits = awaits.0
 swept_on db J x (check_dropped i) awaits = awaits.0
 swept_on db J x f awaits = awaits
 
 -- it leaves each radio
-leaves-swept : (db : List Domain) (J : Journal) (f : Fact) (i r : ℕ) → IsSweptOn f i → LeavesRadio db f J r
+pub leaves-swept : (db : List Domain) (J : Journal) (f : Fact) (i r : ℕ) → IsSweptOn f i → LeavesRadio db f J r
 leaves-swept db J (stopped j) i r on = record { domains = refl; profile = refl; region = refl; indoor = refl; unmet = λ chan met. cc }
 leaves-swept db J (powered j power) i r on = record { domains = refl; profile = refl; region = refl; indoor = refl; unmet = λ chan met. cc }
 leaves-swept db J (check_dropped j) i r on = record { domains = refl; profile = refl; region = refl; indoor = refl; unmet = λ chan met. cc }
 leaves-swept db J f i r on = absurd on
 
 -- and the list of interfaces
-ifaces-swept : (J : Journal) (f : Fact) (i : ℕ) → IsSweptOn f i → ifaces_of (f ∷ J) ≡ ifaces_of J
+pub ifaces-swept : (J : Journal) (f : Fact) (i : ℕ) → IsSweptOn f i → ifaces_of (f ∷ J) ≡ ifaces_of J
 ifaces-swept J (stopped j) i on = refl
 ifaces-swept J (powered j power) i on = refl
 ifaces-swept J (check_dropped j) i on = refl
 ifaces-swept J f i on = absurd on
 
 -- and the operations of the others
-operation-swept : (J : Journal) (f : Fact) (i other : ℕ) → IsSweptOn f i → (other ≡ i → ⊥) → operation_of (f ∷ J) other ≡ operation_of J other
+pub operation-swept : (J : Journal) (f : Fact) (i other : ℕ) → IsSweptOn f i → (other ≡ i → ⊥) → operation_of (f ∷ J) other ≡ operation_of J other
 operation-swept J (stopped j) i other on apart = rw (ne_eqb other j (λ same. apart (same ∙ on)))
 operation-swept J (powered j power) i other on apart = rw (ne_eqb other j (λ same. apart (same ∙ on)))
 operation-swept J (check_dropped j) i other on apart = refl
@@ -78,7 +78,7 @@ begins_none (check_dropped j) i other on (chan, length, begins) = cc
 begins_none f i other on begins = absurd on
 
 -- and their checks
-last_check-swept : (J : Journal) (f : Fact) (i other : ℕ) → IsSweptOn f i → (other ≡ i → ⊥) → check_of (f ∷ J) other ≡ check_of J other
+pub last_check-swept : (J : Journal) (f : Fact) (i other : ℕ) → IsSweptOn f i → (other ≡ i → ⊥) → check_of (f ∷ J) other ≡ check_of J other
 last_check-swept J (stopped j) i other on apart = refl
 last_check-swept J (powered j power) i other on apart = refl
 last_check-swept J (check_dropped j) i other on apart = rw (ne_eqb other j (λ same. apart (same ∙ on)))
@@ -185,7 +185,7 @@ awaits_of db J x fact due becomes = by (operation_of J x.index) (check_of J x.in
     by None (Some k) no_operation is fact becomes = checks k no_operation is fact becomes
     by (Some o) k is check fact becomes = operates o is fact becomes
 
-each_awaits_of : (db : List Domain) (J : Journal) (xs : List Iface) (facts : List Fact) → EachMayFollow db J → AreSwept db J xs facts → EachAwaits db J xs facts
+pub each_awaits_of : (db : List Domain) (J : Journal) (xs : List Iface) (facts : List Fact) → EachMayFollow db J → AreSwept db J xs facts → EachAwaits db J xs facts
 each_awaits_of db J [] facts due none = none
 each_awaits_of db J (x ∷ xs) facts due (fact, rest, becomes, swept, are) = (fact, rest, awaits_of db J x fact due becomes, each_awaits_of db J xs rest due swept, are)
 

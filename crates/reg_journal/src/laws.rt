@@ -14,7 +14,7 @@ ghost use Rattle.reg_journal.specs.Granted.{IsGranted, IsStartable};
 ghost use Rattle.reg_journal.specs.Permits.{BarsOperation, IsPowerOf};
 ghost use Rattle.reg_journal.specs.Present.{Iface, ifaces_of, ifaces_on, named};
 ghost use Rattle.reg_journal.specs.Radar.{HasLapsed, IsState};
-ghost use Rattle.reg_journal.specs.Replies.{Replies};
+ghost use Rattle.reg_journal.specs.Replies.{IsRegular, Replies};
 ghost use Rattle.reg_journal.specs.Settled.{AreSettled, IsSettled};
 ghost use Rattle.reg_journal.specs.Sweep.{AreSwept};
 ghost use Rattle.reg_journal.specs.declared.effects.Effect.{Effect};
@@ -76,4 +76,10 @@ pub fn sweeps_leave_what_may_go_on()
     ensures one { (db : List Domain) (journal : Journal) (r : ℕ) (facts : List Fact) → EachMayFollow db journal → AreSwept db journal (ifaces_on journal r) facts
         → ((y : Iface) → Contains (ifaces_of journal) y → (y.radio ≡ r → ⊥) → IsSettled db journal y)
         → EachMayFollow db (after facts journal) × AreSettled db (after facts journal) }
+{}
+
+/// In each regular journal each fact came where it might, and what each interface does may go on.
+pub fn regular_is_due_and_settled()
+    ensures due { (db : List Domain) (journal : Journal) → IsRegular db journal → EachMayFollow db journal }
+    ensures settled { (db : List Domain) (journal : Journal) → IsRegular db journal → AreSettled db journal }
 {}
