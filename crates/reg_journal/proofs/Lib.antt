@@ -28,3 +28,5 @@ pub mod Regular
 pub mod RulesGo
 pub mod PowersGo
 pub mod EachRegular
+pub mod Few
+pub mod Telling

@@ -9,6 +9,7 @@ ghost use Rattle.dfs_states.specs.declared.dfs.Dfs.{Dfs};
 ghost use Rattle.reg_journal.specs.Applicable.{region_of};
 ghost use Rattle.reg_journal.specs.Causes.{IsFree};
 ghost use Rattle.reg_journal.specs.Due.{EachMayFollow};
+ghost use Rattle.reg_journal.specs.Effects.{HasFewEffects};
 ghost use Rattle.reg_journal.specs.Facts.{Fact, Journal, after, started};
 ghost use Rattle.reg_journal.specs.Granted.{IsGranted, IsStartable};
 ghost use Rattle.reg_journal.specs.Permits.{BarsOperation, IsPowerOf};
@@ -82,4 +83,10 @@ pub fn sweeps_leave_what_may_go_on()
 pub fn regular_is_due_and_settled()
     ensures due { (db : List Domain) (journal : Journal) → IsRegular db journal → EachMayFollow db journal }
     ensures settled { (db : List Domain) (journal : Journal) → IsRegular db journal → AreSettled db journal }
+{}
+
+/// Over a journal each fact of which came where it might, a reply has at most 64 effects.
+pub fn effects_are_few()
+    ensures { (db : List Domain) (journal : Journal) (q : Request) (failed : Bool) (reply : Reply) (facts : List Fact)
+        → EachMayFollow db journal → Replies db journal q failed reply facts → HasFewEffects reply }
 {}
