@@ -22,7 +22,7 @@ use Rattle.reg_journal.specs.Facts.{Journal}
 use Rattle.reg_journal.specs.Present.{Check, Iface, abilities_of}
 use Rattle.reg_journal.specs.Applicable.{applies}
 use Rattle.reg_journal.specs.Causes.{IsFree, ◌before◌, Where, AtLowest}
-use Rattle.reg_journal.specs.Permits.{asked_by, channels_beside, distinct, width_mhz, IsBoundOn, IsLimitOf, IsPowerOf, LacksChannel, LacksWidth, LacksContext, RulesForbid, PassesLimit, LacksRadarWidth, MetRadar, LacksCheck, EndsOperation, EndsCheck, BarsOperation}
+use Rattle.reg_journal.specs.Permits.{asked_by, channels_beside, distinct, width_mhz, IsBoundOn, IsLimitOf, IsPowerOf, LacksChannel, LacksWidth, LacksContext, RulesForbid, PassesLimit, LacksRadarWidth, MetRadar, LacksCheck, EndsOperation, EndsCheck, BarsCheck, BarsOperation}
 use Rattle.reg_journal.specs.Radar.{IsQuiet, NoneStands, Stands}
 use Rattle.reg_journal.specs.Granted.{IsGranted, IsPermitted}
 use Rattle.reg_journal.specs.Settled.{IsCheckPermitted}
@@ -44,7 +44,7 @@ pub never_where : (P : Type 0) (x : Refusal) → IsFree (Where P x) → P → �
 never_where P x free is = free x (is, refl)
 
 -- bars no subchannel, where it is told of each
-none_of_free : (bars : ℕ → Type 0) (c : ChanDef) (refusal : ℕ → Refusal) → ((s : ℕ) → Told (bars s)) → IsFree (AtLowest bars c refusal) → BarsNone bars c
+pub none_of_free : (bars : ℕ → Type 0) (c : ChanDef) (refusal : ℕ → Refusal) → ((s : ℕ) → Told (bars s)) → IsFree (AtLowest bars c refusal) → BarsNone bars c
 none_of_free bars c refusal tell free = elim (first_or_none bars c tell) [
   | inl none ↦ none
   | inr (s, first) ↦ absurd (free (refusal s) (s, first, refl))
@@ -81,7 +81,7 @@ no_rule_bars db J x c free =
       ),
     )
 
-within : (db : List Domain) (J : Journal) (x : Iface) (c : ChanDef) (limit : ℕ) → IsFree (PassesLimit db J x c) → IsLimitOf db J x c limit → IsWithinLimit x.setting limit
+pub within : (db : List Domain) (J : Journal) (x : Iface) (c : ChanDef) (limit : ℕ) → IsFree (PassesLimit db J x c) → IsLimitOf db J x c limit → IsWithinLimit x.setting limit
 within db J x c limit free is = elim (within_or_above x.setting limit) [
   | inl below ↦ below
   | inr above ↦ absurd (free (Power limit) (limit, is, above, refl))
@@ -190,6 +190,23 @@ check_permitted_of_kept db J x k stays =
       quiet = is_quiet db J x k.chan (free-next (LacksRadarWidth db J x k.chan) _ lacks);
       same_region = λ changed. stays (inr changed);
     }
+
+-- a check that nothing bars finds the radio with the channel, its width and its width for radar, no rule against it, and quiet
+pub check_of_free : (db : List Domain) (J : Journal) (x : Iface) (c : ChanDef) → IsFree (BarsCheck db J x c)
+    → HasWidth (asked_by J x c)
+    × NoneBars (Bars (applies db J x.radio) (asked_by J x c)) c (Missing ∷ Unruled ∷ Narrow ∷ OfdmBarred ∷ IrBarred ∷ OutdoorBarred ∷ [])
+    × OnEachBound db J x c (λ s. width_mhz c ≤ (abilities_of J x.radio).radar_mhz)
+    × OnEachBound db J x c (IsQuiet J x.radio)
+check_of_free db J x c free =
+    let width = free-next (LacksChannel db J x c) _ free in
+    let context = free-next (LacksWidth J x c) _ width in
+    let rules = free-next (LacksContext J x c) _ context in
+    let lacks = free-next (RulesForbid db J x c) _ rules in (
+      has_width J x c (free-first _ _ width),
+      (none_barred db J x c Missing RadioLacks (free-first _ _ free), no_rule_bars db J x c (free-first _ _ rules)),
+      has_radar_width db J x c (free-first _ _ lacks),
+      is_quiet db J x c (free-next (LacksRadarWidth db J x c) _ lacks),
+    )
 
 -- ---- valid channels
 

@@ -54,7 +54,7 @@ tells_kind = tells_through {A = Kind} {B = ℕ} kind_number kind_numbered back c
 -- ---- the causes of one interface
 
 -- what speaks against a start on the interface
-abbrev StartCausesOn : List Domain → Journal → Kind → ChanDef → Bool → Iface → Refusal → Type 0
+abbrev pub StartCausesOn : List Domain → Journal → Kind → ChanDef → Bool → Iface → Refusal → Type 0
 StartCausesOn db J kind c failed x =
     Where (x.kind ≢ kind) WrongType
     before Where (InUseFor J x kind) Busy
@@ -62,7 +62,7 @@ StartCausesOn db J kind c failed x =
     before BarsOperation db J x c
     before FailsDriver failed
 
-start_free : (db : List Domain) (J : Journal) (kind : Kind) (c : ChanDef) (failed : Bool) (x : Iface) (power : ℕ) → IsFree (StartCausesOn db J kind c failed x)
+pub start_free : (db : List Domain) (J : Journal) (kind : Kind) (c : ChanDef) (failed : Bool) (x : Iface) (power : ℕ) → IsFree (StartCausesOn db J kind c failed x)
     → IsPowerOf db J x c power → IsStartable J x kind × IsGranted db J x c power
 start_free db J kind c failed x power free is =
     let busy = free-next (Where (x.kind ≢ kind) WrongType) _ free in

@@ -3,6 +3,7 @@
 use Rattle.std.proofs.Common.{◌≡◌, ℕ, zero, suc, ◌+◌, ◌<◌, ◌≤◌, ◌⊎◌, List, [], ◌∷◌, ◌++◌, Contains, Option, Some, None, IsSomeAnd, IsTrue, arith, refl, sym, ap, subst, inl, inr}
 use Rattle.std.proofs.lemmas.Bool.{cases_eq, cases_lt}
 use Rattle.freq_range.proofs.Deciding.{Told, Tells, tells_option, tells_through, told_as, told_both, told_le}
+use Rattle.rule_tables.specs.Regions.{region_number}
 use Rattle.rule_tables.specs.declared.code.Region.{Region}
 use Rattle.rule_tables.specs.declared.code.Region.TheVariants.{Unset, Fcc, Etsi, Jp}
 use Rattle.rule_tables.specs.declared.domain.Domain.{Domain}
@@ -24,12 +25,6 @@ use Rattle.reg_journal.proofs.Splitting.{SomeSplit, ends_split, told_member, tol
 
 -- ---- regions
 
-region_number : Region → ℕ
-region_number Unset = 0
-region_number Fcc = 1
-region_number Etsi = 2
-region_number Jp = 3
-
 region_numbered : ℕ → Region
 region_numbered zero = Unset
 region_numbered (suc zero) = Fcc
@@ -37,7 +32,7 @@ region_numbered (suc (suc zero)) = Etsi
 region_numbered (suc (suc (suc n))) = Jp
 
 pub tells_region : Tells Region
-unfolding region_number region_numbered
+unfolding region_numbered
 tells_region = tells_through {A = Region} {B = ℕ} region_number region_numbered back cases_eq
   where
     back : (r : Region) → region_numbered (region_number r) ≡ r

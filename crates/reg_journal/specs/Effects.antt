@@ -1,11 +1,14 @@
 -- The effects that a reply tells of.
-use Rattle.std.specs.Prelude.{List, Option, None}
+use Rattle.std.specs.Prelude.{◌≤◌, List, length, Option, None}
 use Rattle.std.specs.List.{filter_map}
 use Rattle.std.specs.Option.{option_map}
 use Rattle.reg_journal.specs.Facts.{Fact, Journal, stopped, powered, check_dropped}
 use Rattle.reg_journal.specs.Present.{indexed}
+use Rattle.reg_journal.specs.declared.effects.TheConstants.{MOST_EFFECTS}
 use Rattle.reg_journal.specs.declared.effects.Effect.{Effect}
 use Rattle.reg_journal.specs.declared.effects.Effect.TheVariants.{Stopped, Dropped, Power}
+use Rattle.reg_journal.specs.declared.reply.Reply.{Reply}
+use Rattle.reg_journal.specs.declared.reply.Reply.TheVariants.{Plain}
 
 -- what a fact does to the interface that it speaks of, by the interface's name
 abbrev pub effect_of : Journal → Fact → Option Effect
@@ -17,3 +20,8 @@ effect_of J f = None
 -- the effects of facts that come after the journal
 abbrev pub effects_of : Journal → List Fact → List Effect
 effects_of J facts = filter_map (effect_of J) facts
+
+-- at most 64 effects are told of
+abbrev pub HasFewEffects : Reply → Type 0
+HasFewEffects (Plain answer effects) = length effects ≤ MOST_EFFECTS
+HasFewEffects reply = Unit {0}

@@ -1,6 +1,6 @@
 //! Laws over all journals.
 
-ghost use Rattle.std.specs.Prelude.{◌≡◌, ℕ, ◌⊎◌, List, [], ◌∷◌, Bool, false, Some, IsSomeAnd};
+ghost use Rattle.std.specs.Prelude.{◌≡◌, ℕ, ◌⊎◌, List, [], ◌∷◌, Bool, false, Contains, Some, IsSomeAnd};
 ghost use Rattle.rule_tables.specs.declared.code.Region.TheVariants.{Etsi};
 ghost use Rattle.rule_tables.specs.declared.domain.Domain.{Domain};
 ghost use Rattle.chan_def.specs.declared.definition.ChanDef.{ChanDef};
@@ -8,13 +8,15 @@ ghost use Rattle.chan_def.specs.declared.kind.Kind.{Kind};
 ghost use Rattle.dfs_states.specs.declared.dfs.Dfs.{Dfs};
 ghost use Rattle.reg_journal.specs.Applicable.{region_of};
 ghost use Rattle.reg_journal.specs.Causes.{IsFree};
-ghost use Rattle.reg_journal.specs.Facts.{Fact, Journal, started};
+ghost use Rattle.reg_journal.specs.Due.{EachMayFollow};
+ghost use Rattle.reg_journal.specs.Effects.{HasFewEffects};
+ghost use Rattle.reg_journal.specs.Facts.{Fact, Journal, after, started};
 ghost use Rattle.reg_journal.specs.Granted.{IsGranted, IsStartable};
 ghost use Rattle.reg_journal.specs.Permits.{BarsOperation, IsPowerOf};
-ghost use Rattle.reg_journal.specs.Present.{Iface, ifaces_of, named};
+ghost use Rattle.reg_journal.specs.Present.{Iface, ifaces_of, ifaces_on, named};
 ghost use Rattle.reg_journal.specs.Radar.{HasLapsed, IsState};
-ghost use Rattle.reg_journal.specs.Replies.{Replies};
-ghost use Rattle.reg_journal.specs.Settled.{AreSettled};
+ghost use Rattle.reg_journal.specs.Replies.{IsRegular, Replies};
+ghost use Rattle.reg_journal.specs.Settled.{AreSettled, IsSettled};
 ghost use Rattle.reg_journal.specs.Sweep.{AreSwept};
 ghost use Rattle.reg_journal.specs.declared.effects.Effect.{Effect};
 ghost use Rattle.reg_journal.specs.declared.reply.Answer.TheVariants.{Started};
@@ -65,4 +67,26 @@ pub fn started_where_granted()
 /// Where what each interface does may go on as it is, a sweep of all interfaces does nothing.
 pub fn what_may_go_on_is_not_swept()
     ensures { (db : List Domain) (journal : Journal) → AreSettled db journal → AreSwept db journal (ifaces_of journal) [] }
+{}
+
+/// After a sweep what each interface does may go on: of all interfaces, or of those of one radio where
+/// the others' may go on already. Each of its facts may come.
+pub fn sweeps_leave_what_may_go_on()
+    ensures all { (db : List Domain) (journal : Journal) (facts : List Fact) → EachMayFollow db journal → AreSwept db journal (ifaces_of journal) facts
+        → EachMayFollow db (after facts journal) × AreSettled db (after facts journal) }
+    ensures one { (db : List Domain) (journal : Journal) (r : ℕ) (facts : List Fact) → EachMayFollow db journal → AreSwept db journal (ifaces_on journal r) facts
+        → ((y : Iface) → Contains (ifaces_of journal) y → (y.radio ≡ r → ⊥) → IsSettled db journal y)
+        → EachMayFollow db (after facts journal) × AreSettled db (after facts journal) }
+{}
+
+/// In each regular journal each fact came where it might, and what each interface does may go on.
+pub fn regular_is_due_and_settled()
+    ensures due { (db : List Domain) (journal : Journal) → IsRegular db journal → EachMayFollow db journal }
+    ensures settled { (db : List Domain) (journal : Journal) → IsRegular db journal → AreSettled db journal }
+{}
+
+/// Over a journal each fact of which came where it might, a reply has at most 64 effects.
+pub fn effects_are_few()
+    ensures { (db : List Domain) (journal : Journal) (q : Request) (failed : Bool) (reply : Reply) (facts : List Fact)
+        → EachMayFollow db journal → Replies db journal q failed reply facts → HasFewEffects reply }
 {}
