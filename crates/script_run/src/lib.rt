@@ -2,8 +2,8 @@
 #![tactic(auto)]
 
 mod answering;
+mod command;
 mod driver_row;
-mod run;
 
+pub use command::{database_named, run};
 pub use driver_row::add_driver;
-pub use run::{database_named, run};

@@ -1,7 +1,7 @@
 use Rattle.std.proofs.Common.{arith, codes, ◌≡◌, ◌<◌, ◌≤◌, length, List, [], ◌∷◌, get_or, refl}
 use Rattle.std.proofs.lemmas.Bool.Decides.{Decides-eqb}
 use Rattle.std.proofs.lemmas.Slice.Eq.{slice_eq-Decides}
-use Rattle.script_run.proofs.run.database_named.Goals as goal
+use Rattle.script_run.proofs.command.database_named.Goals as goal
 
 only_two : {A : Type 0} (xs : List A) (x y : A) → 2 ≤ length xs → length xs < 3 → x ≡ get_or xs 0 x → y ≡ get_or xs 1 y → xs ≡ x ∷ y ∷ []
 only_two [] x y some few here there = absurd (omega arith)
