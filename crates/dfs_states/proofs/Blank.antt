@@ -4,7 +4,7 @@ use Rattle.std.proofs.lemmas.List.Elements.{All-weaker}
 use Rattle.chan_def.specs.Covered.{IsCovered}
 use Rattle.chan_def.specs.declared.definition.ChanDef.{ChanDef}
 use Rattle.dfs_states.specs.Book.{Book}
-use Rattle.dfs_states.specs.Calls.{Call, Advance, Radar, Begin, DropCheck, Operate, RegionChanged, moment_of, operation_of, lasts_of}
+use Rattle.dfs_states.specs.Calls.{Call, Advance, Radar, Begin, DropCheck, Operate, RegionChanged, moment_of, slot_operation, lasts_of}
 use Rattle.dfs_states.specs.Meaning.{HasNonoccupancy, CheckCounts, CheckEnded, NoCheckStands, HasOperation, OperatedAt, Runs, EachMayBeCalled, AreBlank}
 use Rattle.dfs_states.specs.StandsFor.{IsCheck, IsSinceOrNone, IsPlace, BookStandsFor}
 use Rattle.dfs_states.specs.declared.check.Check.{Check}
@@ -35,7 +35,7 @@ none_ended calls khz end blank ended =
     none_counts calls khz was.0 end blank was.1
 
 -- no operation was told
-no_operation : (calls : List Call) (slot : ℕ) → AreBlank calls → operation_of calls slot ≡ None
+no_operation : (calls : List Call) (slot : ℕ) → AreBlank calls → slot_operation calls slot ≡ None
 no_operation [] slot blank = refl
 no_operation (Advance moment ∷ calls) slot blank = no_operation calls slot (blank_rest (Advance moment) calls blank)
 no_operation (Radar chan ∷ calls) slot blank = absurd (blank (Radar chan) (has_newest (Radar chan) calls))

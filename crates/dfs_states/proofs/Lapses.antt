@@ -3,10 +3,10 @@ use Rattle.std.proofs.Common.{◌≡◌, ℕ, ◌+◌, ◌≤◌, Bool, false, L
 use Rattle.std.proofs.lemmas.Bool.{cases_lt}
 use Rattle.chan_def.specs.Covered.{IsCovered}
 use Rattle.chan_def.specs.declared.definition.ChanDef.{ChanDef}
-use Rattle.dfs_states.specs.Calls.{Call, Advance, Radar, Begin, DropCheck, Operate, RegionChanged, moment_of, operation_of, lasts_of}
+use Rattle.dfs_states.specs.Calls.{Call, Advance, Radar, Begin, DropCheck, Operate, RegionChanged, moment_of, slot_operation, lasts_of}
 use Rattle.dfs_states.specs.Greatest.{IsGreatest, IsMost}
 use Rattle.dfs_states.specs.Meaning.{HasOperation, OperatedAt, IsEndOrUse, CheckLapsed, EachMayBeCalled}
-use Rattle.dfs_states.specs.StandsFor.{IsLongAgo, IsLastUse, IsLeft}
+use Rattle.dfs_states.specs.StandsFor.{IsLongAgo, IsLastUse, OutlastsLapse}
 use Rattle.dfs_states.specs.declared.moments.TheConstants.{UNUSED_CHECK_MS}
 use Rattle.dfs_states.proofs.Later.{now_later}
 use Rattle.dfs_states.proofs.Most.{most_same}
@@ -19,7 +19,7 @@ IsNoOperate f = (slot : ℕ) (chan : Option ChanDef) → f ≡ Operate slot chan
 abbrev pub IsNoRegion : Call → Type 0
 IsNoRegion f = (lasts : Bool) → f ≡ RegionChanged lasts → ⊥
 
-pub operation_same : (f : Call) (calls : List Call) (slot : ℕ) → IsNoOperate f → operation_of (f ∷ calls) slot ≡ operation_of calls slot
+pub operation_same : (f : Call) (calls : List Call) (slot : ℕ) → IsNoOperate f → slot_operation (f ∷ calls) slot ≡ slot_operation calls slot
 operation_same (Advance moment) calls slot apart = refl
 operation_same (Radar chan) calls slot apart = refl
 operation_same (Begin other chan length) calls slot apart = refl
@@ -145,7 +145,7 @@ lapsed_past calls khz end due lapsed =
     omega arith
 
 -- what lapses now was left
-pub left_now : (calls : List Call) (khz end : ℕ) (used : Option ℕ) → IsLastUse calls khz used → LapsesNow calls khz end → IsLeft calls khz end used
+pub left_now : (calls : List Call) (khz end : ℕ) (used : Option ℕ) → IsLastUse calls khz used → LapsesNow calls khz end → OutlastsLapse calls khz end used
 left_now calls khz end used is lapses =
     let unused : HasOperation calls khz → ⊥ = λ has.
     let past = lapses.is_last.none_above (moment_of calls) (inr (operated_now calls khz has)) in
@@ -224,8 +224,8 @@ long_later now now' end end' used later earlier long =
 
 -- a lapse is of now, or what was left stays left
 pub lapse_next : (opening : Bool) (f : Call) (calls : List Call) (khz end : ℕ) (used : Option ℕ) → IsNoOperate f → IsNoRegion f → EachMayBeCalled (f ∷ calls)
-    → IsLastUse (f ∷ calls) khz used → (lasts_of opening calls ≡ false → CheckLapsed calls khz end → IsLeft calls khz end used)
-    → lasts_of opening (f ∷ calls) ≡ false → CheckLapsed (f ∷ calls) khz end → IsLeft (f ∷ calls) khz end used
+    → IsLastUse (f ∷ calls) khz used → (lasts_of opening calls ≡ false → CheckLapsed calls khz end → OutlastsLapse calls khz end used)
+    → lasts_of opening (f ∷ calls) ≡ false → CheckLapsed (f ∷ calls) khz end → OutlastsLapse (f ∷ calls) khz end used
 lapse_next opening f calls khz end used apart region due is was lapses lapsed = elim (lapsed_cases f calls khz end lapsed) [
   | inl now ↦ left_now (f ∷ calls) khz end used is now
   | inr before ↦

@@ -7,7 +7,7 @@ use Rattle.std.proofs.lemmas.List.Elements.{All-weaker}
 use Rattle.std.proofs.lemmas.Option.{none-some}
 use Rattle.chan_def.specs.declared.definition.ChanDef.{ChanDef}
 use Rattle.dfs_states.specs.Book.{Book}
-use Rattle.dfs_states.specs.Calls.{Call, Advance, Radar, Begin, DropCheck, Operate, RegionChanged, moment_of, operation_of, lasts_of}
+use Rattle.dfs_states.specs.Calls.{Call, Advance, Radar, Begin, DropCheck, Operate, RegionChanged, moment_of, slot_operation, lasts_of}
 use Rattle.dfs_states.specs.Meaning.{HasOperation, IsFreeSlot, MayBeCalled, EachMayBeCalled}
 use Rattle.dfs_states.specs.StandsFor.{IsCheck, AreChecks, AreOperations, IsPlace, BookStandsFor}
 use Rattle.dfs_states.specs.inner.Steps.{EachFollows, PlaceFollows, CheckFollows, IsDone, IsEnded, IsPresent, OperatesOn}
@@ -156,7 +156,7 @@ operations_set : (slot : ℕ) (chan : Option ChanDef) (calls : List Call) (opera
     → AreOperations (set operations slot chan) (Operate slot chan ∷ calls)
 operations_set slot chan calls operations within are = λ other. elim (cases_eq slot other) [
   | inl same ↦
-      subst (λ k. get_or (set operations slot chan) k no_chan ≡ operation_of (Operate slot chan ∷ calls) k) same
+      subst (λ k. get_or (set operations slot chan) k no_chan ≡ slot_operation (Operate slot chan ∷ calls) k) same
       (get_or-set_same operations slot chan no_chan within ∙ sym (told slot slot refl))
   | inr apart ↦
       get_or-set_other operations slot other chan no_chan (λ same. apart (sym same)) ∙ are other ∙ sym (untold slot other apart)
@@ -165,10 +165,10 @@ operations_set slot chan calls operations within are = λ other. elim (cases_eq 
     no_chan : Option ChanDef
     no_chan = None
 
-    told : (one other : ℕ) → one ≡ other → operation_of (Operate one chan ∷ calls) other ≡ chan
+    told : (one other : ℕ) → one ≡ other → slot_operation (Operate one chan ∷ calls) other ≡ chan
     told one other same = grind (arith, nat_tests)
 
-    untold : (one other : ℕ) → (one ≡ other → ⊥) → operation_of (Operate one chan ∷ calls) other ≡ operation_of calls other
+    untold : (one other : ℕ) → (one ≡ other → ⊥) → slot_operation (Operate one chan ∷ calls) other ≡ slot_operation calls other
     untold one other apart = grind (arith, nat_tests)
 
 pub stands_operate : (book new : Book) (channels : List ℕ) (opening : Bool) (calls : List Call) (slot : ℕ) (chan : Option ChanDef) → BookStandsFor book channels opening calls

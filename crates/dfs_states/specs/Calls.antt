@@ -21,10 +21,10 @@ moment_of (Advance moment ∷ calls) = moment
 moment_of (call ∷ calls) = moment_of calls
 
 -- the channel on which the slot's interface operates: what was told last, or none
-abbrev pub operation_of : List Call → ℕ → Option ChanDef
-operation_of [] slot = None
-operation_of (Operate other chan ∷ calls) slot = if other == slot then chan else operation_of calls slot
-operation_of (call ∷ calls) slot = operation_of calls slot
+abbrev pub slot_operation : List Call → ℕ → Option ChanDef
+slot_operation [] slot = None
+slot_operation (Operate other chan ∷ calls) slot = if other == slot then chan else slot_operation calls slot
+slot_operation (call ∷ calls) slot = slot_operation calls slot
 
 -- whether checks last in the present region: what was told with its last change, or else what held at the opening of the book
 abbrev pub lasts_of : Bool → List Call → Bool

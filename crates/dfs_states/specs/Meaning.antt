@@ -4,7 +4,7 @@
 use Rattle.std.specs.Prelude.{◌≡◌, ℕ, ◌+◌, ◌<◌, ◌≤◌, ◌⊎◌, List, [], ◌∷◌, ◌++◌, Contains, Bool, true, Option, Some, None, IfSome, IsSomeAnd}
 use Rattle.chan_def.specs.Covered.{IsCovered, IsValidDef}
 use Rattle.chan_def.specs.declared.definition.ChanDef.{ChanDef}
-use Rattle.dfs_states.specs.Calls.{Call, Advance, Radar, Begin, DropCheck, Operate, RegionChanged, moment_of, operation_of, lasts_of, HasCall, HasBegin, HasRadarCall, IsUndropped}
+use Rattle.dfs_states.specs.Calls.{Call, Advance, Radar, Begin, DropCheck, Operate, RegionChanged, moment_of, slot_operation, lasts_of, HasCall, HasBegin, HasRadarCall, IsUndropped}
 use Rattle.dfs_states.specs.Greatest.{IsGreatest}
 use Rattle.dfs_states.specs.declared.moments.TheConstants.{LAST_MOMENT_MS, NONOCCUPANCY_MS, UNUSED_CHECK_MS}
 use Rattle.dfs_states.specs.declared.dfs.Dfs.{Dfs}
@@ -51,7 +51,7 @@ pub record CheckEnded (calls : List Call) (khz end : ℕ) : Type 0 where
 -- the operation of some slot covers the subchannel
 pub record HasOperation (calls : List Call) (khz : ℕ) : Type 0 where
   pub slot : ℕ
-  pub covers : IsSomeAnd (operation_of calls slot) (λ chan. IsCovered chan khz)
+  pub covers : IsSomeAnd (slot_operation calls slot) (λ chan. IsCovered chan khz)
 
 -- an operation covered the subchannel at this moment: after all the calls, or after the oldest ones
 pub record OperatedAt (calls : List Call) (khz moment : ℕ) : Type 0 where

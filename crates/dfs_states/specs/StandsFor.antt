@@ -2,7 +2,7 @@
 use Rattle.std.specs.Prelude.{◌≡◌, ℕ, ◌+◌, ◌≤◌, ◌↔◌, List, map, All, Option, Some, None, IfSome, slice_index_or, Bool, true, false}
 use Rattle.chan_def.specs.declared.definition.ChanDef.{ChanDef}
 use Rattle.dfs_states.specs.Book.{Book}
-use Rattle.dfs_states.specs.Calls.{Call, moment_of, operation_of, lasts_of}
+use Rattle.dfs_states.specs.Calls.{Call, moment_of, slot_operation, lasts_of}
 use Rattle.dfs_states.specs.Greatest.{IsGreatest, IsMost}
 use Rattle.dfs_states.specs.Meaning.{HasNonoccupancy, CheckCounts, CheckEnded, CheckLapsed, NoCheckStands, HasOperation, OperatedAt, Runs, IsFreeSlot, EachMayBeCalled}
 use Rattle.dfs_states.specs.declared.moments.TheConstants.{UNUSED_CHECK_MS}
@@ -20,7 +20,7 @@ AreChecks checks calls = (slot : ℕ) → IsCheck calls slot (slice_index_or che
 
 -- each slot has the operation of its interface
 abbrev pub AreOperations : List (Option ChanDef) → List Call → Type 0
-AreOperations operations calls = (slot : ℕ) → slice_index_or operations slot None ≡ operation_of calls slot
+AreOperations operations calls = (slot : ℕ) → slice_index_or operations slot None ≡ slot_operation calls slot
 
 -- 2,000 ms have passed since the end of a check and since the use, if there was one
 pub record IsLongAgo (now end : ℕ) (used : Option ℕ) : Type 0 where
@@ -33,14 +33,14 @@ abbrev pub IsLastUse : List Call → ℕ → Option ℕ → Type 0
 IsLastUse calls khz used = (HasOperation calls khz → ⊥) → IsMost (OperatedAt calls khz) used
 
 -- The end of a check, in a region where checks lapse, is kept after the lapse only as long as the channel stays out of use.
-pub record IsLeft (calls : List Call) (khz end : ℕ) (used : Option ℕ) : Type 0 where
+pub record OutlastsLapse (calls : List Call) (khz end : ℕ) (used : Option ℕ) : Type 0 where
   pub unused : HasOperation calls khz → ⊥
   pub long_ago : IsLongAgo (moment_of calls) end used
 
 -- this is the latest end of the checks that count for the channel, none of which has lapsed before the last use
 pub record IsSince (opening : Bool) (calls : List Call) (khz : ℕ) (used : Option ℕ) (end : ℕ) : Type 0 where
   pub latest : IsGreatest (CheckEnded calls khz) end
-  pub lapse : lasts_of opening calls ≡ false → CheckLapsed calls khz end → IsLeft calls khz end used
+  pub lapse : lasts_of opening calls ≡ false → CheckLapsed calls khz end → OutlastsLapse calls khz end used
 
 -- the latest end of a check, or that none stands
 abbrev pub IsSinceOrNone : Bool → List Call → ℕ → Option ℕ → Option ℕ → Type 0

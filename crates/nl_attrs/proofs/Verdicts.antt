@@ -10,7 +10,7 @@ use Rattle.nl_attrs.specs.Endian.{AreBytes, le16_at, le32_at}
 use Rattle.nl_attrs.specs.Attributes.{HasAttrs, HasBreach}
 use Rattle.nl_attrs.specs.Messages.{IsMsg, head_bytes, spelled, all_spelled}
 use Rattle.nl_attrs.specs.Faults.{IsFault, IsUndecided, IsFamilyWhole, length_at, type_at, body_at, length_fault, type_fault}
-use Rattle.nl_attrs.specs.Streams.{AreMessages, HasMessage, HasFault, joined}
+use Rattle.nl_attrs.specs.Streams.{AreMessages, HasMessage, HasHeldFault, joined}
 use Rattle.nl_attrs.specs.inner.Reading.{IsWhole}
 use Rattle.nl_attrs.specs.declared.fault.AttrFault.{AttrFault}
 use Rattle.nl_attrs.specs.declared.fault.AttrFault.TheVariants.{BadAttr}
@@ -69,7 +69,7 @@ error_found held n fits whole kind =
     found held n (Error (le16_at b 6) (le32_at b 8) (le32_at b 12) code (drop 4 body)) (error_is _ _ _ code (drop 4 body) (u16_at-lt b 6 (bytes_at b b_fits)) (u32_at-lt b 8 (bytes_at b b_fits)) (u32_at-lt b 12 (bytes_at b b_fits)) (code_fits body code body_fits refl) head_len (All-drop (λ x. x < 256) 4 body body_bytes)) spelt
 
 -- a message of a family is whole: it is judged by its reserved number, and then by its attributes
-family_told : (held : List ℕ) (n : ℕ) → AreBytes held → IsWhole held n → 16 ≤ type_at held → HasMessage held ⊎ HasFault held
+family_told : (held : List ℕ) (n : ℕ) → AreBytes held → IsWhole held n → 16 ≤ type_at held → HasMessage held ⊎ HasHeldFault held
 family_told held n fits whole high =
     let b : List ℕ = take n held in
     let b_fits : AreBytes b = All-take (λ x. x < 256) n held fits in
@@ -96,7 +96,7 @@ family_told held n fits whole high =
           ]
     ]
 
-whole_told : (held : List ℕ) (n : ℕ) → AreBytes held → IsWhole held n → HasMessage held ⊎ HasFault held
+whole_told : (held : List ℕ) (n : ℕ) → AreBytes held → IsWhole held n → HasMessage held ⊎ HasHeldFault held
 whole_told held n fits whole =
     elim (cases_eq (type_at held) 2) [
       | inl error ↦ inl (error_found held n fits whole error)
@@ -107,7 +107,7 @@ whole_told held n fits whole =
           ]
     ]
 
-by_type : (held : List ℕ) (fault : Option AttrFault) → AreBytes held → 6 ≤ length held → length_fault (length_at held) ≡ None → type_fault (length_at held) (type_at held) ≡ fault → IsUndecided held ⊎ (HasMessage held ⊎ HasFault held)
+by_type : (held : List ℕ) (fault : Option AttrFault) → AreBytes held → 6 ≤ length held → length_fault (length_at held) ≡ None → type_fault (length_at held) (type_at held) ≡ fault → IsUndecided held ⊎ (HasMessage held ⊎ HasHeldFault held)
 by_type held (Some f) fits six good bad = inr (inr (f, inr (inl (record { seen = six; good_length = good; bad = bad }))))
 by_type held None fits six good kind_good =
     let long = length_good (length_at held) good in
@@ -116,7 +116,7 @@ by_type held None fits six good kind_good =
       | inr whole ↦ inr (whole_told held (length_at held) fits (record { is = refl; good = record { good_length = good; good_type = kind_good }; long = long.0; short = long.2; within = whole }))
     ]
 
-by_length : (held : List ℕ) (fault : Option AttrFault) → AreBytes held → 4 ≤ length held → length_fault (length_at held) ≡ fault → IsUndecided held ⊎ (HasMessage held ⊎ HasFault held)
+by_length : (held : List ℕ) (fault : Option AttrFault) → AreBytes held → 4 ≤ length held → length_fault (length_at held) ≡ fault → IsUndecided held ⊎ (HasMessage held ⊎ HasHeldFault held)
 by_length held (Some f) fits four bad = inr (inr (f, inl (record { seen = four; bad = bad })))
 by_length held None fits four good =
     let long = (length_good (length_at held) good).0 in
@@ -125,7 +125,7 @@ by_length held None fits four good =
       | inr six ↦ by_type held (type_fault (length_at held) (type_at held)) fits six good refl
     ]
 
-pub verdict : (held : List ℕ) → AreBytes held → IsUndecided held ⊎ (HasMessage held ⊎ HasFault held)
+pub verdict : (held : List ℕ) → AreBytes held → IsUndecided held ⊎ (HasMessage held ⊎ HasHeldFault held)
 verdict held fits =
     elim (cases_lt (length held) 4) [
       | inl few ↦ inl (inl few)
