@@ -1,0 +1,3 @@
+pub mod CommonLists
+pub mod Notes
+pub mod inner
