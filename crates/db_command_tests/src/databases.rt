@@ -119,7 +119,10 @@ fn the_first_fault_of_a_file_is_told(rt: HostRuntime) -> Result<(), Fail> {
         (b"RGDC\0\0\0\x14", bad(DbFault::BadMagic(0x5247_4443))),
         (b"RGDB\0\0\0\x14US\0\x09", bad(DbFault::BadCollection(US))),
         (b"RGDB\0\0\0\x14US\0\x02", bad(DbFault::BadCollection(US))),
-        (b"RGDB\0\0\0\x14us\0\x02", bad(DbFault::BadAlpha2(0x75, 0x73))),
+        (
+            b"RGDB\0\0\0\x14us\0\x02",
+            bad(DbFault::BadAlpha2(0x75, 0x73)),
+        ),
         (&TWICE_FILE, bad(DbFault::CountryTwice(US))),
         (&bad_region, bad(DbFault::BadRegion(US, 4))),
         (&short_rule, bad(DbFault::BadRule(US, 0))),
@@ -156,7 +159,12 @@ fn a_check_time_has_no_text(rt: HostRuntime) -> Result<(), Fail> {
         country: US,
         rule: 0,
     };
-    refuse(&rt, rt.alloc(), Conversion::Decompile, &[(&CHECK_TIME_FILE, fault)])
+    refuse(
+        &rt,
+        rt.alloc(),
+        Conversion::Decompile,
+        &[(&CHECK_TIME_FILE, fault)],
+    )
 }
 
 // The entry ends at byte 12, and the last pointer of the collection at byte 74.

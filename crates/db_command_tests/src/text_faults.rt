@@ -35,7 +35,10 @@ fn lines_are_judged_by_how_they_begin(rt: HostRuntime) -> Result<(), Fail> {
                 b"vo_c: cw_min=3, cw_max=7, aifsn=2, cot=2\n",
                 at(1, TextKind::NoBlock),
             ),
-            (b"wmmrule A:\ncountry US:\nvo_c:\n", at(3, TextKind::NoBlock)),
+            (
+                b"wmmrule A:\ncountry US:\nvo_c:\n",
+                at(3, TextKind::NoBlock),
+            ),
         ],
     )
 }

@@ -19,7 +19,10 @@ fn a_database_with_a_fault_is_refused(rt: HostRuntime) -> Result<(), Fail> {
     for (row, (file, fault)) in files.iter().enumerate() {
         let file = bytes(rt.alloc(), file)?;
         let (status, out, _faults) = answered(rt.alloc(), file, b"at 5\n", &[])?;
-        assert!(rt; status == Status::Refused(InputFault::Database(*fault)), "row {row}");
+        assert!(rt;
+            status == Status::Refused(InputFault::Database(*fault)),
+            "row {row}"
+        );
         assert!(rt; out.written().is_empty(), "row {row}");
     }
     Ok(())

@@ -17,7 +17,10 @@ fn a_file_in_memory_is_read_by_its_name(rt: HostRuntime) -> Result<(), Fail> {
         (NAME, u64::MAX, Ok(4)),
     ] {
         let read = files.read_file(rt.alloc(), name, most);
-        assert!(rt; read.map(|bytes| bytes.len()) == wanted, "for {name} and {most}");
+        assert!(rt;
+            read.map(|bytes| bytes.len()) == wanted,
+            "for {name} and {most}"
+        );
     }
     assert!(rt; files.faults() == 2);
     let read = files.read_file(rt.alloc(), NAME, 4)?;

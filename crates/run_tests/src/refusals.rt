@@ -152,7 +152,10 @@ fn rules_forbid_channels(rt: HostRuntime) -> Result<(), Fail> {
         ),
         ("iw phy phy0 interface add ap0 type __ap", "ok\n"),
         ("iw phy phy1 interface add ap1 type __ap", "ok\n"),
-        ("iw dev ap0 ap start home 2412 100 2", "refused: width 2412\n"),
+        (
+            "iw dev ap0 ap start home 2412 100 2",
+            "refused: width 2412\n",
+        ),
         (
             "iw dev ap0 ap start home 5180 100 2",
             "refused: NO-OUTDOOR 5180\n",

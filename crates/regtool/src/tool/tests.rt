@@ -178,7 +178,13 @@ fn a_file_that_is_not_read_is_told(rt: HostRuntime) -> Result<(), Fail> {
     let mut files = FailingFiles::new(rt.alloc(), NAME, file, &[1])?;
     let mut input = MemSource::new(bytes(rt.alloc(), SCRIPT)?, 16);
     let mut out = MemSink::new(rt.alloc(), ROOM)?;
-    let status = call(rt.alloc(), "run regulatory.db", &mut files, &mut input, &mut out)?;
+    let status = call(
+        rt.alloc(),
+        "run regulatory.db",
+        &mut files,
+        &mut input,
+        &mut out,
+    )?;
     assert!(rt; status == Status::ReadFault);
     assert!(rt; out.written().is_empty());
     ends(
@@ -230,7 +236,13 @@ fn readers_and_writers_of_std_are_streams(rt: HostRuntime) -> Result<(), Fail> {
     let mut written = Vec::new(rt.alloc());
     let mut input = StdSource::new(SCRIPT);
     let mut out = StdSink::new(&mut written);
-    let status = call(rt.alloc(), "run regulatory.db", &mut files, &mut input, &mut out)?;
+    let status = call(
+        rt.alloc(),
+        "run regulatory.db",
+        &mut files,
+        &mut input,
+        &mut out,
+    )?;
     assert!(rt; status == Status::Done);
     assert!(rt; written.as_slice() == REPLIES);
     Ok(())
