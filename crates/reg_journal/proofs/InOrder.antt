@@ -1,5 +1,5 @@
 -- What is on air, and in which order.
-use Rattle.std.proofs.Common.{◌≡◌, ◌==◌, ℕ, suc, ◌<◌, Bool, true, false, not, List, [], ◌∷◌, ◌++◌, length, map, filter, AllPairs, Contains, Option, Some, None, if◌then◌else◌, option_map, arith, refl, sym, ap, subst, ◌∙◌, ◌⊎◌, inl, inr, eq-eqb, ne_eqb}
+use Rattle.std.proofs.Common.{◌≡◌, ◌↔◌, ◌==◌, ℕ, suc, ◌<◌, Bool, true, false, not, List, [], ◌∷◌, ◌++◌, length, map, filter, AllPairs, Contains, Option, Some, None, if◌then◌else◌, option_map, arith, refl, sym, ap, subst, ◌∙◌, ◌⊎◌, inl, inr, eq-eqb, ne_eqb}
 use Rattle.std.proofs.lemmas.Bool.{cases_Bool, cases_eq, false≢true}
 use Rattle.std.proofs.lemmas.List.Elements.{All-nil}
 use Rattle.std.proofs.lemmas.List.Kept.{AllPairs-cons, AllPairs-filter}
@@ -389,3 +389,10 @@ in_order db (made j name q kind ∷ J) r due =
 in_order db (f ∷ J) r due =
     let was = in_order db J r due.1 in
     left_step f J r was refl (λ i on at. cc) (λ e has. ((was.operates e has).0, refl)) (λ i o on is. (on, is))
+
+-- exactly the operations
+pub entries_exactly : (db : List Domain) (J : Journal) (r : ℕ) → EachMayFollow db J → (e : OnAir) → Contains (on_air_of J r) e
+    ↔ ((is_on J e.iface r ≡ true) × (operation_of J e.iface ≡ Some (record { chan = e.chan; power = e.power_mbm })))
+entries_exactly db J r due e =
+    let is = in_order db J r due in
+    (is.operates e, λ (on, at). is.all e.iface (record { chan = e.chan; power = e.power_mbm }) on at)
