@@ -30,3 +30,5 @@ pub mod PowersGo
 pub mod EachRegular
 pub mod Few
 pub mod Telling
+pub mod InOrder
+pub mod Untold

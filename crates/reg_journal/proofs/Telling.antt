@@ -64,7 +64,7 @@ becomes_untold db J x fact becomes = by (operation_of J x.index) (check_of J x.i
     by (Some o) k (Some (check_begun i chan length)) becomes = becomes
     by (Some o) k (Some f) becomes = tt
 
-swept_untold : (db : List Domain) (J : Journal) (xs : List Iface) (facts : List Fact) → AreSwept db J xs facts → EachTellsNothing facts
+pub swept_untold : (db : List Domain) (J : Journal) (xs : List Iface) (facts : List Fact) → AreSwept db J xs facts → EachTellsNothing facts
 swept_untold db J [] facts none = subst EachTellsNothing (sym none) tt
 swept_untold db J (x ∷ xs) facts (None, rest, becomes, swept, are) = subst EachTellsNothing (sym are) (swept_untold db J xs rest swept)
 swept_untold db J (x ∷ xs) facts (Some f, rest, becomes, swept, are) =

@@ -1,28 +1,30 @@
 //! Laws over all journals.
 
-ghost use Rattle.std.specs.Prelude.{◌≡◌, ℕ, ◌⊎◌, List, [], ◌∷◌, Bool, false, Contains, Some, IsSomeAnd};
+ghost use Rattle.std.specs.Prelude.{◌≡◌, ◌≢◌, ◌↔◌, ℕ, AllPairs, IsTrue, ◌⊎◌, List, [], ◌∷◌, Bool, false, Contains, Some, IsSomeAnd};
 ghost use Rattle.rule_tables.specs.declared.code.Region.TheVariants.{Etsi};
 ghost use Rattle.rule_tables.specs.declared.domain.Domain.{Domain};
 ghost use Rattle.chan_def.specs.declared.definition.ChanDef.{ChanDef};
 ghost use Rattle.chan_def.specs.declared.kind.Kind.{Kind};
 ghost use Rattle.dfs_states.specs.declared.dfs.Dfs.{Dfs};
+ghost use Rattle.radio_drv.specs.declared.on_air.OnAir.{OnAir};
 ghost use Rattle.reg_journal.specs.Applicable.{region_of};
 ghost use Rattle.reg_journal.specs.Causes.{IsFree};
 ghost use Rattle.reg_journal.specs.Due.{EachMayFollow};
 ghost use Rattle.reg_journal.specs.Effects.{HasFewEffects};
 ghost use Rattle.reg_journal.specs.Facts.{Fact, Journal, after, started};
 ghost use Rattle.reg_journal.specs.Granted.{IsGranted, IsStartable};
+ghost use Rattle.reg_journal.specs.OnAir.{StartedBefore, TellsCheck, is_on, on_air_of, told_of};
 ghost use Rattle.reg_journal.specs.Permits.{BarsOperation, IsPowerOf};
-ghost use Rattle.reg_journal.specs.Present.{Iface, ifaces_of, ifaces_on, named};
+ghost use Rattle.reg_journal.specs.Present.{Iface, ifaces_of, ifaces_on, named, operation_of};
 ghost use Rattle.reg_journal.specs.Radar.{HasLapsed, IsState};
 ghost use Rattle.reg_journal.specs.Replies.{IsRegular, Replies};
 ghost use Rattle.reg_journal.specs.Settled.{AreSettled, IsSettled};
 ghost use Rattle.reg_journal.specs.Sweep.{AreSwept};
 ghost use Rattle.reg_journal.specs.declared.effects.Effect.{Effect};
-ghost use Rattle.reg_journal.specs.declared.reply.Answer.TheVariants.{Started};
+ghost use Rattle.reg_journal.specs.declared.reply.Answer.TheVariants.{Checking, Started};
 ghost use Rattle.reg_journal.specs.declared.reply.Reply.{Reply};
 ghost use Rattle.reg_journal.specs.declared.reply.Reply.TheVariants.{Plain};
-ghost use Rattle.reg_journal.specs.declared.request.Request.TheVariants.{Start};
+ghost use Rattle.reg_journal.specs.declared.request.Request.TheVariants.{Check, Start};
 ghost use Rattle.reg_journal.specs.declared.request.Request.{Request};
 
 /// Over a journal a request has at most one reply, and appends the same facts with it.
@@ -89,4 +91,25 @@ pub fn regular_is_due_and_settled()
 pub fn effects_are_few()
     ensures { (db : List Domain) (journal : Journal) (q : Request) (failed : Bool) (reply : Reply) (facts : List Fact)
         → EachMayFollow db journal → Replies db journal q failed reply facts → HasFewEffects reply }
+{}
+
+/// The check last told of a radio's driver is that of the last check's beginning: a reply that tells of one
+/// sets it on the check's radio alone, and each other reply leaves it.
+pub fn check_last_told()
+    ensures begun { (db : List Domain) (journal : Journal) (name : List ℕ) (c : ChanDef) (failed : Bool) (length : ℕ) (effects : List Effect) (facts : List Fact)
+        → EachMayFollow db journal → Replies db journal (Check name c) failed (Plain (Checking length) effects) facts
+        → IsSomeAnd (named journal name) (λ x. (told_of (after facts journal) x.radio ≡ Some (record { iface = x.index; chan = c; length_ms = length }))
+        × ((r : ℕ) → r ≢ x.radio → told_of (after facts journal) r ≡ told_of journal r)) }
+    ensures left { (db : List Domain) (journal : Journal) (q : Request) (failed : Bool) (reply : Reply) (facts : List Fact)
+        → Replies db journal q failed reply facts → (TellsCheck reply → ⊥) → (r : ℕ) → told_of (after facts journal) r ≡ told_of journal r }
+{}
+
+/// What a radio has on air: exactly the operations of the interfaces that were made on it, each once, in the
+/// order of the starts since which each has operated without a pause.
+pub fn on_air_in_order()
+    ensures entries { (db : List Domain) (journal : Journal) (r : ℕ) → EachMayFollow db journal → (e : OnAir) → Contains (on_air_of journal r) e
+        ↔ (IsTrue (is_on journal e.iface r) × (operation_of journal e.iface ≡ Some (record { chan = e.chan; power = e.power_mbm }))) }
+    ensures once { (db : List Domain) (journal : Journal) (r : ℕ) → EachMayFollow db journal → AllPairs (λ a b. a.iface ≢ b.iface) (on_air_of journal r) }
+    ensures order { (db : List Domain) (journal : Journal) (r : ℕ) → EachMayFollow db journal
+        → AllPairs (λ a b. StartedBefore journal a.iface b.iface) (on_air_of journal r) }
 {}
