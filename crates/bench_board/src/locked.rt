@@ -9,6 +9,7 @@ use std::sync::{Arc, Mutex, Wait};
 use std::thread::Threads;
 
 /// A reader or the writer, at the table that all share.
+#[derive(Drop)]
 struct Sharer<'a, R: Wait> {
     rt: &'a R,
     shown: &'a Mutex<Arc<Table>>,

@@ -2,6 +2,8 @@
 //! so that both can be timed: over a board whose readers never wait, or over a lock beside it.
 #![tactic(auto)]
 
+ghost use Rattle.std.specs.Prelude.{◌≤◌, IfOk};
+
 mod locked;
 mod race;
 mod stop;
@@ -10,8 +12,12 @@ mod table;
 
 use crate::race::Count;
 use crate::stop::Stop;
+use std::alloc::Global;
 use std::env;
 use std::process::ExitCode;
+use std::rt::Clock;
+use std::sync::Wait;
+use std::thread::Threads;
 use std::time::Instant;
 
 /// What the readers look at.
@@ -22,7 +28,9 @@ enum Task {
 }
 
 /// What the three words behind the program's name say: the task, how many readers, and how many looks each takes.
-fn named_task(rt: &HostRuntime) -> Result<(Task, u8, u32), Stop> {
+fn named_task(rt: &HostRuntime) -> Result<(Task, u8, u32), Stop>
+    ensures readers { IfOk result (λ t. (1 ≤ t.1) × (t.1 ≤ 8)) }
+{
     let mut words = env::args(rt)?.skip(1);
     let task = match words.next().ok_or(Stop)?.as_str() {
         "swap" => Task::Swap,
@@ -38,12 +46,19 @@ fn named_task(rt: &HostRuntime) -> Result<(Task, u8, u32), Stop> {
 }
 
 /// Runs the task. What it found goes to standard output, and how many publishes it made in how long to standard error.
-fn run(rt: &HostRuntime) -> Result<(), Stop> {
-    let (task, readers, looks) = named_task(rt)?;
+fn run<R: Clock + Print + Eprint + Threads + Wait + Sync>(
+    rt: &R,
+    alloc: Global,
+    task: Task,
+    readers: u8,
+    looks: u32,
+) -> Result<(), Stop>
+    requires { (1 ≤ readers) × (readers ≤ 8) }
+{
     let start = Instant::now(rt)?;
     let Count { back, publishes } = match task {
-        Task::Swap => swapped::run(rt, rt.alloc(), readers, looks)?,
-        Task::Lock => locked::run(rt, rt.alloc(), readers, looks)?,
+        Task::Swap => swapped::run(rt, alloc, readers, looks)?,
+        Task::Lock => locked::run(rt, alloc, readers, looks)?,
     };
     let micros = start.elapsed(rt)?.as_micros();
     println!(rt; "{readers} readers, {looks} looks each: {back} went back or were torn")?;
@@ -52,8 +67,9 @@ fn run(rt: &HostRuntime) -> Result<(), Stop> {
 }
 
 fn main(rt: HostRuntime) -> ExitCode {
-    match run(&rt) {
-        Ok(()) => ExitCode::from(0),
-        Err(_stop) => ExitCode::from(1),
-    }
+    let done = match named_task(&rt) {
+        Ok((task, readers, looks)) => run(&rt, rt.alloc(), task, readers, looks),
+        Err(stop) => Err(stop),
+    };
+    ExitCode::from(u8::from(done.is_err()))
 }

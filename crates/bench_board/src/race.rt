@@ -81,7 +81,9 @@ pub(crate) fn race<R: Threads + Sync, S: Reads + Send + Drop, W: Writes + Drop>(
         || all_looks(rt, readers, looks, &ended),
         || publish_all(writer, alloc, count, &ended),
     );
-    let back = backs?.iter().fold(0u64, |all, one| all.saturating_add(*one));
+    let back = backs?
+        .iter()
+        .fold(0u64, |all, one| all.saturating_add(*one));
     Ok(Count {
         back,
         publishes: publishes?,

@@ -1,7 +1,7 @@
 //! Why nothing was timed.
 
 use rule_publish::OutOfMemory;
-use std::alloc::AllocError;
+use std::alloc::{AllocError, AllocFailed};
 use std::io;
 use std::num::ParseIntError;
 
@@ -29,6 +29,12 @@ impl From<AllocError> for Stop {
 
 impl From<OutOfMemory> for Stop {
     fn from(_error: OutOfMemory) -> Stop {
+        Stop
+    }
+}
+
+impl<T: Drop> From<AllocFailed<T>> for Stop {
+    fn from(_error: AllocFailed<T>) -> Stop {
         Stop
     }
 }

@@ -17,8 +17,7 @@ fn a_plain_board_shows_the_value_published_last(rt: HostRuntime) -> Result<(), F
 #[test]
 fn a_board_has_as_many_readers_as_were_asked_for(rt: HostRuntime) -> Result<(), Fail> {
     for readers in 1..9u8 {
-        let (teller, mut lookers) =
-            SwapBoard::open(&rt, rt.alloc(), Score { number: 4 }, readers)?;
+        let (teller, mut lookers) = SwapBoard::open(&rt, rt.alloc(), Score { number: 4 }, readers)?;
         assert!(rt; lookers.len() == usize::from(readers));
         for _reader in 0..readers {
             let looker = lookers.take().expect(&rt, "a reader");
