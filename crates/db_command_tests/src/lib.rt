@@ -8,6 +8,8 @@ mod compiled;
 #[cfg(test)]
 mod databases;
 #[cfg(test)]
+mod lint_notes;
+#[cfg(test)]
 mod rule_texts;
 #[cfg(test)]
 mod samples;
@@ -17,3 +19,5 @@ mod statuses;
 mod streams;
 #[cfg(test)]
 mod text_faults;
+#[cfg(test)]
+mod words;

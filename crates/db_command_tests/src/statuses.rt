@@ -8,7 +8,7 @@ use std::test::Fail;
 const US: Alpha2 = Alpha2 { a: b'U', b: b'S' };
 
 /// Why inputs aren't accepted, and the text of that.
-const FAULTS: [(InputFault, &str); 4] = [
+const FAULTS: [(InputFault, &str); 5] = [
     (
         InputFault::Text(TextFault {
             line: 7,
@@ -31,6 +31,7 @@ const FAULTS: [(InputFault, &str); 4] = [
         InputFault::Layout { words: 65_536 },
         "too large: 65536 words\n",
     ),
+    (InputFault::NoCountry(US), "no country US\n"),
 ];
 
 #[test]

@@ -1,15 +1,16 @@
 -- What follows from the end of a conversion, where its input is told: the whole output, or the fault, or the length.
 use Rattle.std.proofs.Common.{◌≡◌, ℕ, ◌<◌, ◌≤◌, List, [], length, get_or, Option, Some, inl, inr, refl, sym, ◌∙◌, ap, subst, arith}
-use Rattle.std.specs.Prelude.{IfSome, ◌⊎◌}
+use Rattle.std.specs.Prelude.{IfSome, ◌⊎◌, ◌==◌, if◌then◌else◌}
 use Rattle.std.specs.declared.alloc.Global.{Global}
 use Rattle.std.specs.declared.string.String.{String}
+use Rattle.rule_tables.specs.declared.code.Alpha2.{Alpha2}
 use Rattle.rule_tables.specs.declared.domain.Domain.{Domain}
 use Rattle.db_commands.specs.Status.{EndsWith}
-use Rattle.db_commands.specs.Conversions.{NamesConversion, IsAccepted, IsOutputOf, IsInputFault, GivesOutput, command_name}
+use Rattle.db_commands.specs.Conversions.{NamesConversion, IsAccepted, IsOutputOf, IsInputFault, GivesOutput, command_words}
 use Rattle.db_commands.specs.Converted.{HasInput, IsConverted, MayConvert, WritesOutput}
 use Rattle.db_commands.specs.Devices.{StreamAround, Devices, IsRead, input_limit}
 use Rattle.db_commands.specs.declared.conversion.Conversion.{Conversion}
-use Rattle.db_commands.specs.declared.conversion.Conversion.TheVariants.{Compile, Decompile, Check}
+use Rattle.db_commands.specs.declared.conversion.Conversion.TheVariants.{Compile, Decompile, Check, Lint, Common}
 use Rattle.db_commands.specs.declared.status.InputFault.{InputFault}
 use Rattle.db_commands.specs.declared.status.Status.{Status}
 use Rattle.db_commands.specs.declared.status.Status.TheVariants.{Done, Usage, Refused, ReadFault, WriteFault, NoMemory, TooLong}
@@ -21,21 +22,28 @@ of_told there bytes P told h = subst (λ o. IfSome o P) told h
 
 -- ---- words
 
--- commands of one name are the same: their names have different lengths
-name_of-injective : (c d : Conversion) → length (command_name c) ≡ length (command_name d) → c ≡ d
-name_of-injective Compile Compile same = refl
-name_of-injective Compile Decompile same = absurd (omega (arith, same))
-name_of-injective Compile Check same = absurd (omega (arith, same))
-name_of-injective Decompile Compile same = absurd (omega (arith, same))
-name_of-injective Decompile Decompile same = refl
-name_of-injective Decompile Check same = absurd (omega (arith, same))
-name_of-injective Check Compile same = absurd (omega (arith, same))
-name_of-injective Check Decompile same = absurd (omega (arith, same))
-name_of-injective Check Check same = refl
+-- the code that a word of two bytes is
+abbrev code_in : List ℕ → Alpha2
+code_in word = record { a = get_or word 0 0; b = get_or word 1 0 }
+
+-- the command whose words these are: names differ in their lengths
+abbrev from_words : List (List ℕ) → Conversion
+from_words words =
+    if length (get_or words 0 []) == 7 then Compile
+    else if length (get_or words 0 []) == 9 then Decompile
+    else if length (get_or words 0 []) == 5 then Check
+    else if length (get_or words 0 []) == 4 then Lint
+    else Common (code_in (get_or words 1 [])) (code_in (get_or words 2 []))
+
+from_its_words : (c : Conversion) → from_words (command_words c) ≡ c
+from_its_words Compile = refl
+from_its_words Decompile = refl
+from_its_words Check = refl
+from_its_words Lint = refl
+from_its_words (Common one other) = refl
 
 pub Names-unique : (words : List (String Global)) (c d : Conversion) → NamesConversion words c → NamesConversion words d → c ≡ d
-Names-unique words c d one other =
-    name_of-injective c d (ap (λ names. length (get_or names 0 [])) (sym one ∙ other))
+Names-unique words c d one other = sym (from_its_words c) ∙ ap from_words (sym one.spelled ∙ other.spelled) ∙ from_its_words d
 
 -- ---- the whole output
 

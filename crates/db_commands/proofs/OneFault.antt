@@ -1,24 +1,42 @@
 -- An input is accepted as one database, or has one fault.
-use Rattle.std.proofs.Common.{◌≡◌, ℕ, ◌<◌, List, ap, subst, arith}
+use Rattle.std.proofs.Common.{◌≡◌, ℕ, ◌<◌, List, ap, arith, inl, inr, subst, sym, ◌∙◌}
+use Rattle.rule_tables.specs.Databases.{HasCode}
+use Rattle.rule_tables.specs.FileFormat.{ReadsAs}
+use Rattle.rule_tables.specs.declared.code.Alpha2.{Alpha2}
 use Rattle.rule_tables.specs.declared.domain.Domain.{Domain}
 use Rattle.db_reader.proofs.OneDatabase.{ReadsAs-unique}
 use Rattle.db_reader.proofs.OneFault.{IsDbFault-unique, ReadsAs-no_fault}
 use Rattle.rule_text.proofs.OneAnswer.{TextOf-unique, TextOf-no_fault, IsTextFault-unique}
-use Rattle.db_text.specs.Printed.{IsFirstTime}
 use Rattle.db_writer.specs.LaidOut.{IsWithinReach, EndsIn}
 use Rattle.db_writer.proofs.Unique.{EndsIn-unique}
 use Rattle.db_commands.proofs.FirstTime.{IsFirstTime-unique, LackTimes-none}
-use Rattle.db_commands.specs.Conversions.{InputStandsFor, IsAccepted, IsInputFault}
+use Rattle.db_commands.specs.Conversions.{HasOutput, InputStandsFor, IsAccepted, IsFileFault, IsInputFault, IsMisread, IsMissing, LacksOutput}
 use Rattle.db_commands.specs.declared.conversion.Conversion.{Conversion}
-use Rattle.db_commands.specs.declared.conversion.Conversion.TheVariants.{Compile, Decompile, Check}
+use Rattle.db_commands.specs.declared.conversion.Conversion.TheVariants.{Compile, Decompile, Check, Lint, Common}
 use Rattle.db_commands.specs.declared.status.InputFault.{InputFault}
-use Rattle.db_commands.specs.declared.status.InputFault.TheVariants.{Text, Database, Layout, CacTime}
+use Rattle.db_commands.specs.declared.status.InputFault.TheVariants.{Text, Database, Layout, NoCountry}
 
 -- an input stands for one database
 pub StandsFor-unique : (c : Conversion) (input : List ℕ) (ds es : List Domain) → InputStandsFor c input ds → InputStandsFor c input es → ds ≡ es
 StandsFor-unique Compile text ds es one other = TextOf-unique text ds es one other
 StandsFor-unique Decompile bytes ds es one other = ReadsAs-unique bytes ds es one other
 StandsFor-unique Check bytes ds es one other = ReadsAs-unique bytes ds es one other
+StandsFor-unique Lint bytes ds es one other = ReadsAs-unique bytes ds es one other
+StandsFor-unique (Common a b) bytes ds es one other = ReadsAs-unique bytes ds es one other
+
+-- ---- an input that stands for a database isn't misread
+
+file_is_good : (bytes : List ℕ) (ds : List Domain) (fault : InputFault) → ReadsAs bytes ds → IsFileFault bytes fault → ⊥
+file_is_good bytes ds fault reads (f, is, bad) = ReadsAs-no_fault bytes ds f reads bad
+
+not_misread : (c : Conversion) (input : List ℕ) (ds : List Domain) (fault : InputFault) → InputStandsFor c input ds → IsMisread c input fault → ⊥
+not_misread Compile text ds fault stands (f, is, bad) = TextOf-no_fault text ds f stands bad
+not_misread Decompile bytes ds fault stands h = file_is_good bytes ds fault stands h
+not_misread Check bytes ds fault stands h = file_is_good bytes ds fault stands h
+not_misread Lint bytes ds fault stands h = file_is_good bytes ds fault stands h
+not_misread (Common a b) bytes ds fault stands h = file_is_good bytes ds fault stands h
+
+-- ---- a database that has an output doesn't lack it
 
 -- a database whose file is within the reach of pointers isn't too large
 not_too_large : (ds : List Domain) (words : ℕ) → IsWithinReach ds → EndsIn ds words → 65535 < words → ⊥
@@ -26,55 +44,52 @@ not_too_large ds words (place, ends, small) ends' above =
     let same = EndsIn-unique ds place words ends ends' in
     omega (arith, same, small, above)
 
+-- both codes are there, so none is missing
+not_missing : (ds : List Domain) (a b code : Alpha2) → HasCode ds a → HasCode ds b → IsMissing ds a b code → ⊥
+not_missing ds a b code one other missing = elim missing [ inl first ↦ first.1 one | inr second ↦ second.2 other ]
+
+not_lacking : (c : Conversion) (ds : List Domain) (fault : InputFault) → HasOutput c ds → LacksOutput c ds fault → ⊥
+not_lacking Compile ds fault has (words, is, ends, above) = not_too_large ds words has ends above
+not_lacking Decompile ds fault has (country, k, is, first) = LackTimes-none ds country k has first
+not_lacking Check ds fault has none = none
+not_lacking Lint ds fault has none = none
+not_lacking (Common a b) ds fault has (code, is, missing) = not_missing ds a b code has.0 has.1 missing
+
 -- an input that is accepted has no fault
 pub IsAccepted-no_fault : (c : Conversion) (input : List ℕ) (ds : List Domain) (fault : InputFault) → IsAccepted c input ds → IsInputFault c input fault → ⊥
-IsAccepted-no_fault Compile text ds (Text f) accepted h = TextOf-no_fault text ds f accepted.stands_for h
-IsAccepted-no_fault Compile text ds (Layout words) accepted (es, stands, ends, above) =
-    let there : EndsIn ds words = subst (λ fs. EndsIn fs words) (TextOf-unique text es ds stands accepted.stands_for) ends in
-    not_too_large ds words accepted.has_output there above
-IsAccepted-no_fault Compile text ds (Database f) accepted h = h
-IsAccepted-no_fault Compile text ds (CacTime country k) accepted h = h
-IsAccepted-no_fault Decompile bytes ds (Database f) accepted h = ReadsAs-no_fault bytes ds f accepted.stands_for h
-IsAccepted-no_fault Decompile bytes ds (CacTime country k) accepted (es, reads, first) =
-    LackTimes-none ds country k accepted.has_output
-    (subst (λ fs. IsFirstTime fs country k) (ReadsAs-unique bytes es ds reads accepted.stands_for) first)
-IsAccepted-no_fault Decompile bytes ds (Text f) accepted h = h
-IsAccepted-no_fault Decompile bytes ds (Layout words) accepted h = h
-IsAccepted-no_fault Check bytes ds (Database f) accepted h = ReadsAs-no_fault bytes ds f accepted.stands_for h
-IsAccepted-no_fault Check bytes ds (Text f) accepted h = h
-IsAccepted-no_fault Check bytes ds (Layout words) accepted h = h
-IsAccepted-no_fault Check bytes ds (CacTime country k) accepted h = h
+IsAccepted-no_fault c input ds fault accepted (inl misread) = not_misread c input ds fault accepted.stands_for misread
+IsAccepted-no_fault c input ds fault accepted (inr (es, stands, lacks)) =
+    not_lacking c ds fault accepted.has_output (subst (λ fs. LacksOutput c fs fault) (StandsFor-unique c input es ds stands accepted.stands_for) lacks)
 
--- an input has one fault
+-- ---- an input has one fault
+
+one_file_fault : (bytes : List ℕ) (f g : InputFault) → IsFileFault bytes f → IsFileFault bytes g → f ≡ g
+one_file_fault bytes f g (one, is, bad) (other, is', bad') = is ∙ ap Database (IsDbFault-unique bytes one other bad bad') ∙ sym is'
+
+misread_once : (c : Conversion) (input : List ℕ) (f g : InputFault) → IsMisread c input f → IsMisread c input g → f ≡ g
+misread_once Compile text f g (one, is, bad) (other, is', bad') = is ∙ ap Text (IsTextFault-unique text one other bad bad') ∙ sym is'
+misread_once Decompile bytes f g one other = one_file_fault bytes f g one other
+misread_once Check bytes f g one other = one_file_fault bytes f g one other
+misread_once Lint bytes f g one other = one_file_fault bytes f g one other
+misread_once (Common a b) bytes f g one other = one_file_fault bytes f g one other
+
+-- one of the two codes is the first that is missing
+one_missing : (ds : List Domain) (a b code other : Alpha2) → IsMissing ds a b code → IsMissing ds a b other → code ≡ other
+one_missing ds a b code other (inl (is, none)) (inl (is', none')) = is ∙ sym is'
+one_missing ds a b code other (inl (is, none)) (inr (is', has, none')) = absurd (none has)
+one_missing ds a b code other (inr (is, has, none)) (inl (is', none')) = absurd (none' has)
+one_missing ds a b code other (inr (is, has, none)) (inr (is', has', none')) = is ∙ sym is'
+
+lacks_once : (c : Conversion) (ds : List Domain) (f g : InputFault) → LacksOutput c ds f → LacksOutput c ds g → f ≡ g
+lacks_once Compile ds f g (words, is, ends, above) (more, is', ends', above') = is ∙ ap Layout (EndsIn-unique ds words more ends ends') ∙ sym is'
+lacks_once Decompile ds f g (country, k, is, first) (code, j, is', first') = is ∙ IsFirstTime-unique ds country code k j first first' ∙ sym is'
+lacks_once Check ds f g none other = absurd none
+lacks_once Lint ds f g none other = absurd none
+lacks_once (Common a b) ds f g (code, is, missing) (other, is', missing') = is ∙ ap NoCountry (one_missing ds a b code other missing missing') ∙ sym is'
+
 pub IsInputFault-unique : (c : Conversion) (input : List ℕ) (f g : InputFault) → IsInputFault c input f → IsInputFault c input g → f ≡ g
-IsInputFault-unique Compile text (Text f) (Text g) one other = ap Text (IsTextFault-unique text f g one other)
-IsInputFault-unique Compile text (Text f) (Layout words) one (ds, stands, ends, above) = absurd (TextOf-no_fault text ds f stands one)
-IsInputFault-unique Compile text (Text f) (Database g) one none = absurd none
-IsInputFault-unique Compile text (Layout words) (Text g) (ds, stands, ends, above) other = absurd (TextOf-no_fault text ds g stands other)
-IsInputFault-unique Compile text (Layout words) (Layout more) (ds, stands, ends, above) (es, stands', ends', above') =
-    let there : EndsIn es words = subst (λ fs. EndsIn fs words) (TextOf-unique text ds es stands stands') ends in
-    ap Layout (EndsIn-unique es words more there ends')
-IsInputFault-unique Compile text (Layout words) (Database g) one none = absurd none
-IsInputFault-unique Compile text (Text f) (CacTime country k) one none = absurd none
-IsInputFault-unique Compile text (Layout words) (CacTime country k) one none = absurd none
-IsInputFault-unique Compile text (Database f) g none other = absurd none
-IsInputFault-unique Compile text (CacTime country k) g none other = absurd none
-IsInputFault-unique Decompile bytes (Database f) (Database g) one other = ap Database (IsDbFault-unique bytes f g one other)
-IsInputFault-unique Decompile bytes (Database f) (CacTime country k) one (ds, reads, first) = absurd (ReadsAs-no_fault bytes ds f reads one)
-IsInputFault-unique Decompile bytes (Database f) (Text g) one none = absurd none
-IsInputFault-unique Decompile bytes (Database f) (Layout words) one none = absurd none
-IsInputFault-unique Decompile bytes (CacTime country k) (Database g) (ds, reads, first) other = absurd (ReadsAs-no_fault bytes ds g reads other)
-IsInputFault-unique Decompile bytes (CacTime country k) (CacTime code j) (ds, reads, first) (es, reads', first') =
-    let there : IsFirstTime es country k = subst (λ fs. IsFirstTime fs country k) (ReadsAs-unique bytes ds es reads reads') first in
-    IsFirstTime-unique es country code k j there first'
-IsInputFault-unique Decompile bytes (CacTime country k) (Text g) one none = absurd none
-IsInputFault-unique Decompile bytes (CacTime country k) (Layout words) one none = absurd none
-IsInputFault-unique Decompile bytes (Text f) g none other = absurd none
-IsInputFault-unique Decompile bytes (Layout words) g none other = absurd none
-IsInputFault-unique Check bytes (Database f) (Database g) one other = ap Database (IsDbFault-unique bytes f g one other)
-IsInputFault-unique Check bytes (Database f) (Text g) one none = absurd none
-IsInputFault-unique Check bytes (Database f) (Layout words) one none = absurd none
-IsInputFault-unique Check bytes (Database f) (CacTime country k) one none = absurd none
-IsInputFault-unique Check bytes (Text f) g none other = absurd none
-IsInputFault-unique Check bytes (CacTime country k) g none other = absurd none
-IsInputFault-unique Check bytes (Layout words) g none other = absurd none
+IsInputFault-unique c input f g (inl one) (inl other) = misread_once c input f g one other
+IsInputFault-unique c input f g (inl one) (inr (ds, stands, lacks)) = absurd (not_misread c input ds f stands one)
+IsInputFault-unique c input f g (inr (ds, stands, lacks)) (inl other) = absurd (not_misread c input ds g stands other)
+IsInputFault-unique c input f g (inr (ds, stands, lacks)) (inr (es, stands', lacks')) =
+    lacks_once c es f g (subst (λ fs. LacksOutput c fs f) (StandsFor-unique c input ds es stands stands') lacks) lacks'

@@ -1,32 +1,49 @@
 -- The commands that read a whole input and write what it says in another form. Each goes from its input to a database, and
 -- from the database to its output.
-use Rattle.std.specs.Prelude.{◌≡◌, ℕ, ◌<◌, ⊤, List, [], ◌∷◌, ◌++◌, length, map, sum_by, codes, decimal, string_bytes}
+use Rattle.std.specs.Prelude.{◌≡◌, ◌⊎◌, ℕ, ◌<◌, ⊤, List, [], ◌∷◌, Contains, map, codes, string_bytes}
 use Rattle.std.specs.declared.alloc.Global.{Global}
 use Rattle.std.specs.declared.string.String.{String}
+use Rattle.rule_tables.specs.Code.{IsCode}
+use Rattle.rule_tables.specs.Databases.{HasCode}
 use Rattle.rule_tables.specs.FileFaults.{IsDbFault}
 use Rattle.rule_tables.specs.FileFormat.{ReadsAs}
+use Rattle.rule_tables.specs.declared.code.Alpha2.{Alpha2}
 use Rattle.rule_tables.specs.declared.domain.Domain.{Domain}
+use Rattle.rule_tables.specs.declared.file_fault.DbFault.{DbFault}
+use Rattle.rule_text.specs.declared.fault.TextFault.{TextFault}
 use Rattle.db_text.specs.Printed.{printed, LackTimes, IsFirstTime}
 use Rattle.rule_text.specs.TextOf.{TextOf, IsTextFault}
 use Rattle.db_writer.specs.LaidOut.{LaidOut, EndsIn, IsWithinReach}
-use Rattle.reg_base.specs.Texts.{line_of}
+use Rattle.db_commands.specs.Reports.{IsCommonReport, IsLintReport, count_line}
 use Rattle.db_commands.specs.declared.conversion.Conversion.{Conversion}
-use Rattle.db_commands.specs.declared.conversion.Conversion.TheVariants.{Compile, Decompile, Check}
+use Rattle.db_commands.specs.declared.conversion.Conversion.TheVariants.{Compile, Decompile, Check, Lint, Common}
 use Rattle.db_commands.specs.declared.conversion.Refusal.{Refusal}
 use Rattle.db_commands.specs.declared.conversion.Refusal.TheVariants.{Fault, OutOfMemory}
 use Rattle.db_commands.specs.declared.status.InputFault.{InputFault}
-use Rattle.db_commands.specs.declared.status.InputFault.TheVariants.{Text, Database, Layout, CacTime}
+use Rattle.db_commands.specs.declared.status.InputFault.TheVariants.{Text, Database, Layout, CacTime, NoCountry}
 
 -- ---- words
 
-abbrev pub command_name : Conversion → List ℕ
-command_name Compile = codes "compile"
-command_name Decompile = codes "decompile"
-command_name Check = codes "check"
+-- the name of the command, and behind that of `common` its two codes
+abbrev pub command_words : Conversion → List (List ℕ)
+command_words Compile = codes "compile" ∷ []
+command_words Decompile = codes "decompile" ∷ []
+command_words Check = codes "check" ∷ []
+command_words Lint = codes "lint" ∷ []
+command_words (Common one other) = codes "common" ∷ (one.a ∷ one.b ∷ []) ∷ (other.a ∷ other.b ∷ []) ∷ []
 
--- the words are the form of the command: its name alone
-abbrev pub NamesConversion : List (String Global) → Conversion → Type 0
-NamesConversion words command = map string_bytes words ≡ command_name command ∷ []
+-- what the command names are codes
+abbrev pub HasCodes : Conversion → Type 0
+HasCodes Compile = ⊤
+HasCodes Decompile = ⊤
+HasCodes Check = ⊤
+HasCodes Lint = ⊤
+HasCodes (Common one other) = IsCode one × IsCode other
+
+-- the words are the form of the command
+pub record NamesConversion (words : List (String Global)) (command : Conversion) : Type 0 where
+  pub spelled : map string_bytes words ≡ command_words command
+  pub are_codes : HasCodes command
 
 -- the words are the form of such a command
 abbrev pub IsConversion : List (String Global) → Type 0
@@ -44,13 +61,10 @@ pub record IsText (text : List ℕ) (ds : List Domain) : Type 0 where
   pub is_printed : text ≡ printed ds
   pub stands_for : TextOf text ds
 
--- how many rules the domains have in all
-abbrev pub rule_count : List Domain → ℕ
-rule_count ds = sum_by (λ d. length d.rules) ds
-
--- `C countries, R rules` and a newline
-abbrev pub count_line : List Domain → List ℕ
-count_line ds = line_of (decimal (length ds) ++ (codes " countries, " ++ (decimal (rule_count ds) ++ codes " rules")))
+-- the text is what the two countries of the database allow together
+abbrev pub IsShared : List Domain → Alpha2 → Alpha2 → List ℕ → Type 0
+IsShared ds one other text =
+    (a : Domain) × Contains ds a × (a.alpha2 ≡ one) × (b : Domain) × Contains ds b × (b.alpha2 ≡ other) × IsCommonReport a b text
 
 -- ---- what each command does
 
@@ -59,27 +73,56 @@ abbrev pub InputStandsFor : Conversion → List ℕ → List Domain → Type 0
 InputStandsFor Compile text ds = TextOf text ds
 InputStandsFor Decompile bytes ds = ReadsAs bytes ds
 InputStandsFor Check bytes ds = ReadsAs bytes ds
+InputStandsFor Lint bytes ds = ReadsAs bytes ds
+InputStandsFor (Common one other) bytes ds = ReadsAs bytes ds
 
 -- the database has an output
 abbrev pub HasOutput : Conversion → List Domain → Type 0
 HasOutput Compile ds = IsWithinReach ds
 HasOutput Decompile ds = LackTimes ds
 HasOutput Check ds = ⊤
+HasOutput Lint ds = ⊤
+HasOutput (Common one other) ds = HasCode ds one × HasCode ds other
 
 -- the bytes are the output of the database
 abbrev pub IsOutputOf : Conversion → List Domain → List ℕ → Type 0
 IsOutputOf Compile ds bytes = IsFile bytes ds
 IsOutputOf Decompile ds bytes = IsText bytes ds
 IsOutputOf Check ds bytes = bytes ≡ count_line ds
+IsOutputOf Lint ds bytes = IsLintReport ds bytes
+IsOutputOf (Common one other) ds bytes = IsShared ds one other bytes
 
--- why the input stands for no database, or the database that it stands for has no output
+-- ---- why there is no output
+
+-- the bytes are no database file, for that reason
+abbrev pub IsFileFault : List ℕ → InputFault → Type 0
+IsFileFault bytes fault = (f : DbFault) × (fault ≡ Database f) × IsDbFault bytes f
+
+-- why the input stands for no database
+abbrev pub IsMisread : Conversion → List ℕ → InputFault → Type 0
+IsMisread Compile text fault = (f : TextFault) × (fault ≡ Text f) × IsTextFault text f
+IsMisread Decompile bytes fault = IsFileFault bytes fault
+IsMisread Check bytes fault = IsFileFault bytes fault
+IsMisread Lint bytes fault = IsFileFault bytes fault
+IsMisread (Common one other) bytes fault = IsFileFault bytes fault
+
+-- the first of the two codes that no country of the database has
+abbrev pub IsMissing : List Domain → Alpha2 → Alpha2 → Alpha2 → Type 0
+IsMissing ds one other code =
+    ((code ≡ one) × (HasCode ds one → ⊥)) ⊎ ((code ≡ other) × HasCode ds one × (HasCode ds other → ⊥))
+
+-- why the database has no output
+abbrev pub LacksOutput : Conversion → List Domain → InputFault → Type 0
+LacksOutput Compile ds fault = (words : ℕ) × (fault ≡ Layout words) × EndsIn ds words × (65535 < words)
+LacksOutput Decompile ds fault = (country : Alpha2) × (rule : ℕ) × (fault ≡ CacTime country rule) × IsFirstTime ds country rule
+LacksOutput Check ds fault = ⊥
+LacksOutput Lint ds fault = ⊥
+LacksOutput (Common one other) ds fault = (code : Alpha2) × (fault ≡ NoCountry code) × IsMissing ds one other code
+
+-- the input stands for no database, or the database that it stands for has no output
 abbrev pub IsInputFault : Conversion → List ℕ → InputFault → Type 0
-IsInputFault Compile text (Text fault) = IsTextFault text fault
-IsInputFault Compile text (Layout words) = (ds : List Domain) × TextOf text ds × EndsIn ds words × (65535 < words)
-IsInputFault Decompile bytes (Database fault) = IsDbFault bytes fault
-IsInputFault Decompile bytes (CacTime country rule) = (ds : List Domain) × ReadsAs bytes ds × IsFirstTime ds country rule
-IsInputFault Check bytes (Database fault) = IsDbFault bytes fault
-IsInputFault command input fault = ⊥
+IsInputFault command input fault =
+    IsMisread command input fault ⊎ ((ds : List Domain) × InputStandsFor command input ds × LacksOutput command ds fault)
 
 -- ---- over all of them
 

@@ -1,4 +1,5 @@
 pub mod Status
 pub mod Devices
+pub mod Reports
 pub mod Conversions
 pub mod Converted

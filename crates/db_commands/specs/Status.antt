@@ -7,7 +7,7 @@ use Rattle.rule_tables.specs.declared.file_fault.DbFault.{DbFault}
 use Rattle.rule_tables.specs.declared.file_fault.DbFault.TheVariants.{Short, BadMagic, BadVersion, BadAlpha2, CountryTwice, BadCollection, BadRegion as BadRegionByte, BadRule, BadWmm as BadWmmRecord}
 use Rattle.reg_base.specs.Texts.{line_of}
 use Rattle.db_commands.specs.declared.status.InputFault.{InputFault}
-use Rattle.db_commands.specs.declared.status.InputFault.TheVariants.{Text, Database, Layout, CacTime}
+use Rattle.db_commands.specs.declared.status.InputFault.TheVariants.{Text, Database, Layout, CacTime, NoCountry}
 use Rattle.db_commands.specs.declared.status.Status.{Status}
 use Rattle.db_commands.specs.declared.status.Status.TheVariants.{Done, Usage, Refused, ReadFault, WriteFault, NoMemory, TooLong}
 
@@ -55,11 +55,16 @@ database_fault_name (BadWmmRecord code rule) = codes "BadWmm"
 abbrev pub check_time_text : Alpha2 → ℕ → List ℕ
 check_time_text country rule = codes "check time in " ++ (country.a ∷ country.b ∷ []) ++ (codes " rule " ++ decimal rule)
 
+-- no country of the database has the code
+abbrev pub no_country_text : Alpha2 → List ℕ
+no_country_text code = codes "no country " ++ (code.a ∷ code.b ∷ [])
+
 abbrev pub fault_text : InputFault → List ℕ
 fault_text (Text fault) = codes "line " ++ (decimal fault.line ++ (codes ": " ++ kind_name fault.kind))
 fault_text (Database fault) = codes "database: " ++ database_fault_name fault
 fault_text (Layout words) = codes "too large: " ++ (decimal words ++ codes " words")
 fault_text (CacTime country rule) = check_time_text country rule
+fault_text (NoCountry code) = no_country_text code
 
 -- what is told of a status: a line, or nothing where all was done
 abbrev pub text_of : Status → List ℕ

@@ -1,22 +1,25 @@
 //! The commands that read a whole input, judge it, and write what it says in another form.
 
-ghost use Rattle.std.specs.Prelude.{◌≡◌, ◌↔◌, ◌*◌, ◌≤◌, [], ◌∷◌, All, IfErr, IfOk, IsTrue, MatchOption, length, map, string_bytes};
-ghost use Rattle.rule_tables.specs.Databases.{IsDb};
+ghost use Rattle.std.specs.Prelude.{IfErr, IfOk, MatchOption};
 ghost use Rattle.rule_tables.specs.FileFormat.{ReadsAs};
-ghost use Rattle.db_commands.specs.Conversions.{GivesOutput, IsConversion, IsConversionRefusal, NamesConversion, count_line, rule_count};
+ghost use Rattle.rule_tables.specs.declared.code.Alpha2.{Alpha2};
+ghost use Rattle.db_commands.specs.Conversions.{GivesOutput, IsConversion, IsConversionRefusal, NamesConversion};
 
-use crate::line::line_of;
+use crate::common_report::common_report;
+use crate::count_report::count_line;
+use crate::lint_report::lint_report;
 use crate::status::InputFault;
+use crate::words::{are_only, codes_named};
 use db_reader::{ReadFault, read_db};
 use db_text::{ParseFault, PrintFault, parse, print};
 use db_writer::{WriteFault, layout};
 use reg_base::Bytes;
 use reg_lists::OutOfMemory;
-use rule_tables::{Db, Domain};
+use rule_tables::{Alpha2, Db};
 use std::alloc::Global;
 
 /// A command that reads a whole input, and writes what it says in another form. Its only form is
-/// its name alone.
+/// its name alone, and behind that of `common` two codes.
 #[derive(Clone, Copy, Debug, PartialEq, Eq)]
 pub enum Conversion {
     /// From a rule text to the file of its database.
@@ -25,6 +28,10 @@ pub enum Conversion {
     Decompile,
     /// From a database file to how many countries and rules it has.
     Check,
+    /// From a database file to notes on its rules.
+    Lint,
+    /// From a database file to what the countries of these codes allow together.
+    Common { one: Alpha2, other: Alpha2 },
 }
 
 /// Why an input gives no output.
@@ -34,16 +41,6 @@ pub enum Refusal {
     Fault(InputFault),
     /// No memory was found.
     OutOfMemory,
-}
-
-/// Whether the words are this one alone.
-pub fn are_only(words: &[String], name: &str) -> bool
-    ensures { IsTrue result ↔ (map string_bytes words.now ≡ name.now ∷ []) }
-{
-    match words {
-        [word] => word.as_str() == name,
-        _ => false,
-    }
 }
 
 impl Conversion {
@@ -57,8 +54,11 @@ impl Conversion {
             Some(Conversion::Decompile)
         } else if are_only(words, "check") {
             Some(Conversion::Check)
+        } else if are_only(words, "lint") {
+            Some(Conversion::Lint)
         } else {
-            None
+            let (one, other) = codes_named(words)?;
+            Some(Conversion::Common { one, other })
         }
     }
 
@@ -72,6 +72,8 @@ impl Conversion {
             Conversion::Compile => compiled(alloc, input),
             Conversion::Decompile => decompiled(alloc, input),
             Conversion::Check => counted(alloc, input),
+            Conversion::Lint => linted(alloc, input),
+            Conversion::Common { one, other } => shared(alloc, input, one, other),
         }
     }
 }
@@ -98,6 +100,8 @@ fn database_in(alloc: Global, bytes: &[u8]) -> Result<Db, Refusal>
     ensures database { IfOk result (ReadsAs bytes.now) }
     ensures decompile { IfErr result (IsConversionRefusal Conversion.Decompile bytes.now) }
     ensures check { IfErr result (IsConversionRefusal Conversion.Check bytes.now) }
+    ensures lint { IfErr result (IsConversionRefusal Conversion.Lint bytes.now) }
+    ensures common { (one : Alpha2) (other : Alpha2) → IfErr result (IsConversionRefusal (Conversion.Common one other) bytes.now) }
 {
     match read_db(alloc, bytes) {
         Ok(db) => Ok(db),
@@ -133,26 +137,32 @@ fn counted(alloc: Global, bytes: &[u8]) -> Result<Bytes, Refusal>
     }
 }
 
-/// `C countries, R rules` and a newline.
-fn count_line(alloc: Global, domains: &[Domain]) -> Result<Bytes, OutOfMemory>
-    requires { IsDb domains.now }
-    ensures { IfOk result (λ line. line ≡ count_line domains.now) }
+/// The notes on the rules of the database that the bytes say.
+fn linted(alloc: Global, bytes: &[u8]) -> Result<Bytes, Refusal>
+    ensures output { IfOk result (GivesOutput Conversion.Lint bytes.now) }
+    ensures cause { IfErr result (IsConversionRefusal Conversion.Lint bytes.now) }
 {
-    let countries = domains.len();
-    let rules = count_rules(domains);
-    let text = format!(in alloc; "{countries} countries, {rules} rules")?;
-    line_of(alloc, text.as_bytes())
+    let db = database_in(alloc, bytes)?;
+    match lint_report(alloc, &db) {
+        Ok(text) => Ok(text),
+        Err(OutOfMemory) => Err(Refusal::OutOfMemory),
+    }
 }
 
-/// How many rules the domains have in all.
-fn count_rules(domains: &[Domain]) -> usize
-    requires few { length domains.now ≤ 65536 }
-    requires short { All (λ d. length d.rules ≤ 128) domains.now }
-    ensures rules { result ≡ rule_count domains.now }
+/// What the two countries of the database that the bytes say allow together.
+fn shared(alloc: Global, bytes: &[u8], one: Alpha2, other: Alpha2) -> Result<Bytes, Refusal>
+    ensures output { IfOk result (GivesOutput (Conversion.Common one other) bytes.now) }
+    ensures cause { IfErr result (IsConversionRefusal (Conversion.Common one other) bytes.now) }
 {
-    let mut rules = 0;
-    for domain in domains {
-        rules += domain.rules.len();
+    let db = database_in(alloc, bytes)?;
+    let Some(a) = db.find(one) else {
+        return Err(Refusal::Fault(InputFault::NoCountry(one)));
+    };
+    let Some(b) = db.find(other) else {
+        return Err(Refusal::Fault(InputFault::NoCountry(other)));
+    };
+    match common_report(alloc, a, b) {
+        Ok(text) => Ok(text),
+        Err(OutOfMemory) => Err(Refusal::OutOfMemory),
     }
-    rules
 }

@@ -2,7 +2,7 @@
 
 ghost use Rattle.std.specs.Prelude.{◌≡◌, IfOk};
 ghost use Rattle.reg_base.specs.Texts.{line_of};
-ghost use Rattle.db_commands.specs.Status.{check_time_text, database_fault_name, fault_text, kind_name, status_number, text_of};
+ghost use Rattle.db_commands.specs.Status.{check_time_text, database_fault_name, fault_text, kind_name, no_country_text, status_number, text_of};
 
 use crate::line::line_of;
 use db_text::{TextFault, TextKind};
@@ -24,6 +24,8 @@ pub enum InputFault {
     /// The rule of that number of this country, counted from 0, is the first with a check time, which
     /// a rule text can't say.
     CacTime { country: Alpha2, rule: usize },
+    /// The first of the two codes of `common` that no country of the database has.
+    NoCountry(Alpha2),
 }
 
 /// What a call of the program ends with.
@@ -92,6 +94,7 @@ fn fault_line(alloc: Global, fault: &InputFault) -> Result<Bytes, OutOfMemory>
         }
         InputFault::Layout { words } => format!(in alloc; "too large: {words} words")?,
         InputFault::CacTime { country, rule } => return check_time_line(alloc, country, *rule),
+        InputFault::NoCountry(code) => return no_country_line(alloc, code),
     };
     line_of(alloc, text.as_bytes())
 }
@@ -105,6 +108,16 @@ fn check_time_line(alloc: Global, country: &Alpha2, rule: usize) -> Result<Bytes
     text.append(b"check time in ")?;
     text.append(&[country.a, country.b])?;
     text.append(number.as_bytes())?;
+    line_of(alloc, text.as_slice())
+}
+
+/// The line that tells the code that no country of the database has.
+fn no_country_line(alloc: Global, code: &Alpha2) -> Result<Bytes, OutOfMemory>
+    ensures { IfOk result (λ text. text ≡ line_of (no_country_text code.now)) }
+{
+    let mut text = Bytes::new(alloc);
+    text.append(b"no country ")?;
+    text.append(&[code.a, code.b])?;
     line_of(alloc, text.as_slice())
 }
 

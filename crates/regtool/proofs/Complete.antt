@@ -3,11 +3,12 @@ use Rattle.std.proofs.Common.{◌≡◌, ℕ, List, [], length, get_or, ◌⊎�
 use Rattle.std.specs.declared.alloc.Global.{Global}
 use Rattle.std.specs.declared.string.String.{String}
 use Rattle.regtool.specs.Answer.{ConvertsTo, IsStatusOf, IsComplete, RunsTo, TellsFault, TellsLength}
-use Rattle.db_commands.specs.Conversions.{NamesConversion}
+use Rattle.db_commands.specs.Conversions.{NamesConversion, command_words}
 use Rattle.db_commands.specs.Converted.{IsConverted}
 use Rattle.db_commands.specs.Devices.{Devices}
 use Rattle.script_run.specs.Run.{IsRunStatus, NamesRun}
 use Rattle.db_commands.specs.declared.conversion.Conversion.{Conversion}
+use Rattle.db_commands.specs.declared.conversion.Conversion.TheVariants.{Compile, Decompile, Check, Lint, Common}
 use Rattle.db_commands.specs.declared.status.Status.{Status}
 use Rattle.db_commands.specs.declared.status.Status.TheVariants.{Done, Usage, Refused, ReadFault, WriteFault, NoMemory, TooLong}
 use Rattle.db_commands.proofs.FromConversion.{Names-unique, completed, told_fault, told_length}
@@ -26,11 +27,16 @@ answer_of_run words d name TooLong named run = inr (name, named, run)
 
 -- ---- which command was done
 
--- a conversion is one word, and `run` two
+-- a conversion has one word or three, and `run` two
+not_two : (c : Conversion) → length (command_words c) ≡ 2 → ⊥
+not_two Compile two = omega (arith, two)
+not_two Decompile two = omega (arith, two)
+not_two Check two = omega (arith, two)
+not_two Lint two = omega (arith, two)
+not_two (Common one other) two = omega (arith, two)
+
 not_both : (words : List (String Global)) (c : Conversion) (name : List ℕ) → NamesConversion words c → NamesRun words name → ⊥
-not_both words c name one two =
-    let lengths : 1 ≡ 2 = ap length (sym one ∙ two) in
-    omega (arith, lengths)
+not_both words c name one two = not_two c (ap length (sym one.spelled ∙ two))
 
 NamesRun-unique : (words : List (String Global)) (name other : List ℕ) → NamesRun words name → NamesRun words other → name ≡ other
 NamesRun-unique words name other one two = ap (λ ws. get_or ws 1 []) (sym one ∙ two)

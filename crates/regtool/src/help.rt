@@ -12,6 +12,9 @@ usage: regtool COMMAND < INPUT > OUTPUT
   compile     a rule text to its database (regulatory.db, version 20)
   decompile   a database to its rule text
   check       a database to the numbers of its countries and rules
+  lint        a database to notes on its rules
+  common A2 B2
+              a database to what the countries A2 and B2 allow together
   run DB      a script to the replies to its lines, over the database file DB
   --help      this text
   --version   the name and the version

@@ -16,10 +16,11 @@ use std::alloc::Global;
 
 /// Runs the program on the words behind its name, with eight drivers of radios that were told nothing
 /// yet. `compile` reads a rule text and writes its database, `decompile` reads a database and writes
-/// its text, `check` reads one and writes how many countries and rules it has, and `run DB` reads the
-/// database file DB and a script, and writes the replies to the script's lines; other words are
-/// `Usage`. The first thing that fails gives the status, in the order words, file, its database, input,
-/// the input's fault, writing.
+/// its text, `check` reads one and writes how many countries and rules it has, `lint` reads one and
+/// writes notes on its rules, and `common A2 B2` reads one and writes what two countries allow
+/// together. `run DB` reads the database file DB and a script, and writes the replies to the script's
+/// lines; other words are `Usage`. The first thing that fails gives the status, in the order words,
+/// file, its database, input, the input's fault, writing.
 pub fn regtool<F: Files, S: Source, K: Sink, D: DriverRow>(
     alloc: Global,
     words: &[String],

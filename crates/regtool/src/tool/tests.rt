@@ -105,10 +105,12 @@ fn ends(
 
 #[test]
 fn each_command_writes_its_output(rt: HostRuntime) -> Result<(), Fail> {
-    let rows: [(&str, &[u8], &[u8]); 4] = [
+    let noted = b"US rule 0: governs 2412 MHz\n1 countries, 1 rules, 0 without a channel\n";
+    let rows: [(&str, &[u8], &[u8]); 5] = [
         ("compile", US, &US_FILE),
         ("decompile", &US_FILE, US),
         ("check", &US_FILE, b"1 countries, 1 rules\n"),
+        ("lint", &US_FILE, noted),
         ("run regulatory.db", SCRIPT, REPLIES),
     ];
     for (line, input, output) in rows {

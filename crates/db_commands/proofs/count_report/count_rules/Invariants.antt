@@ -1,5 +1,5 @@
 use Rattle.std.proofs.Common.{◌≡◌, ◌*◌, ◌≤◌, length, sum_by, take}
-use Rattle.db_commands.proofs.conversion.count_rules.Given as goal
+use Rattle.db_commands.proofs.count_report.count_rules.Given as goal
 
 -- the rules of the domains so far
 abbrev pub invariant-loop-domain : goal.invariant-loop-domain

@@ -1,5 +1,5 @@
 use Rattle.db_writer.proofs.Few.{few_domains}
-use Rattle.db_commands.proofs.conversion.count_line.Goals as goal
+use Rattle.db_commands.proofs.count_report.count_line.Goals as goal
 
 pub count_rules-rules-requires-clause-few : goal.count_rules-rules-requires-clause-few
 count_rules-rules-requires-clause-few c = few_domains _ c.requires
