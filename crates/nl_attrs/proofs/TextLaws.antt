@@ -1,12 +1,11 @@
 -- The text of a payload is one.
-use Rattle.std.proofs.Common.{◌≡◌, ◌≢◌, ℕ, ◌+◌, ◌<◌, ◌≤◌, List, [], ◌∷◌, ◌++◌, length, get_or, refl, sym, ap, ◌∙◌, inl, inr, arith}
+use Rattle.std.proofs.Common.{◌≡◌, ℕ, List, [], ◌∷◌, ◌++◌, length, get_or, refl, sym, ap, ◌∙◌, inl, inr, arith}
 use Rattle.std.proofs.lemmas.List.{append_cancel_right, length-append}
-use Rattle.std.proofs.lemmas.List.Elements.{All-get_or}
-use Rattle.nl_attrs.specs.Payloads.{IsText, Tells}
+use Rattle.nl_attrs.specs.Payloads.{IsZeroFree, Tells}
 use Rattle.nl_attrs.specs.inner.Texts.{DropsZero}
 
 -- a text ends in no zero byte
-no_zero_end : (text front : List ℕ) → IsText text → text ≡ front ++ 0 ∷ [] → ⊥
+no_zero_end : (text front : List ℕ) → IsZeroFree text → text ≡ front ++ 0 ∷ [] → ⊥
 no_zero_end text front is e =
     is (length front) 1 (omega (arith, ap length e, length-append front (0 ∷ []))) (ap (λ (x : List ℕ). get_or x (length front) 1) e ∙ last_of front)
   where
@@ -31,7 +30,7 @@ one_text payload rest text drops tells =
     ]
 
 -- what is left tells the payload's text, where it is one
-pub tells : (payload rest : List ℕ) → DropsZero payload rest → IsText rest → Tells payload rest
+pub tells : (payload rest : List ℕ) → DropsZero payload rest → IsZeroFree rest → Tells payload rest
 tells payload rest drops is =
     elim drops [
       | inl zero ↦ (is, inl zero)

@@ -1,5 +1,5 @@
 -- What payloads say: numbers, texts, and bytes as they are.
-use Rattle.std.specs.Prelude.{◌≡◌, ◌≢◌, ℕ, ◌+◌, ◌⊎◌, false, List, [], ◌∷◌, ◌++◌, All}
+use Rattle.std.specs.Prelude.{◌≡◌, ◌≢◌, ℕ, ◌⊎◌, false, List, [], ◌∷◌, ◌++◌, All}
 use Rattle.std.specs.Int.{w32, cast_unsigned}
 use Rattle.nl_attrs.specs.Endian.{le16, le32, le64}
 use Rattle.nl_attrs.specs.declared.attr.Attr.{Attr}
@@ -7,8 +7,8 @@ use Rattle.nl_attrs.specs.declared.payloads.Payload.{Payload}
 use Rattle.nl_attrs.specs.declared.payloads.Payload.TheVariants.{U8, U16, U32, U64, I32, Text, Raw}
 
 -- a text has no zero byte, and is written with one at its end
-abbrev pub IsText : List ℕ → Type 0
-IsText text = All (λ b. b ≢ 0) text
+abbrev pub IsZeroFree : List ℕ → Type 0
+IsZeroFree text = All (λ b. b ≢ 0) text
 
 -- the bytes of a payload
 abbrev pub payload_bytes : Payload → List ℕ
@@ -26,4 +26,4 @@ attr_with kind payload = record { kind = kind; nested = false; payload = payload
 
 -- The payload is the text, with the zero byte at its end or without it.
 abbrev pub Tells : List ℕ → List ℕ → Type 0
-Tells payload text = IsText text × ((payload ≡ text ++ 0 ∷ []) ⊎ (payload ≡ text))
+Tells payload text = IsZeroFree text × ((payload ≡ text ++ 0 ∷ []) ⊎ (payload ≡ text))

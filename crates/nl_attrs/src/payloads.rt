@@ -4,7 +4,7 @@ ghost use Rattle.std.specs.Prelude.{◌≡◌, ◌≢◌, ◌<◌, ◌^◌, ◌+
 ghost use Rattle.std.specs.Bool.{MatchBool};
 ghost use Rattle.std.specs.Int.{w32, cast_unsigned};
 ghost use Rattle.nl_attrs.specs.Endian.{AreBytes, le16, le32, le64};
-ghost use Rattle.nl_attrs.specs.Payloads.{IsText, Tells, attr_with, payload_bytes};
+ghost use Rattle.nl_attrs.specs.Payloads.{IsZeroFree, Tells, attr_with, payload_bytes};
 ghost use Rattle.nl_attrs.specs.inner.Texts.{DropsZero};
 
 use crate::attr::Attr;
@@ -53,7 +53,7 @@ impl<'a> Payload<'a> {
     }
 }
 
-/// Writes a payload.
+/// Writes a payload behind what the buffer holds. After `OutOfMemory` a part of it may stand there.
 pub fn put_payload(out: &mut Bytes, payload: Payload<'_>) -> Result<(), OutOfMemory>
     ensures { OnOk result (out.new ≡ out.old ++ payload_bytes payload.entry) }
 {
@@ -160,7 +160,7 @@ fn without_zero(payload: &[u8]) -> &[u8]
 
 /// Whether there is no zero byte.
 fn is_text(bytes: &[u8]) -> bool
-    ensures { MatchBool result (IsText bytes.now) (IsText bytes.now → ⊥) }
+    ensures { MatchBool result (IsZeroFree bytes.now) (IsZeroFree bytes.now → ⊥) }
 {
     for byte in bytes {
         if *byte == 0 {
