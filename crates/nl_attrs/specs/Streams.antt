@@ -17,8 +17,8 @@ joined pieces = flat_map (λ piece. piece) pieces
 abbrev pub HasMessage : List ℕ → Type 0
 HasMessage held = (m : Msg) × (rest : List ℕ) × IsMsg m × (held ≡ spelled m ++ rest)
 
-abbrev pub HasHeldFault : List ℕ → Type 0
-HasHeldFault held = (fault : AttrFault) × IsFault held fault
+abbrev pub IsFaulty : List ℕ → Type 0
+IsFaulty held = (fault : AttrFault) × IsFault held fault
 
 -- The stream is the spellings of the messages, and a rest that is undecided or has the fault at its front.
 pub record AreMessages (stream : List ℕ) (messages : List Msg) (fault : Option AttrFault) : Type 0 where
