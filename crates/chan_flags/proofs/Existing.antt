@@ -161,7 +161,7 @@ first_or_none bars c tell = elim (ends_covered Downward downward (λ s n. bars s
 
 -- ---- limits and lengths
 
-some_limit : (ds : List Domain) (q : Asked) → (limit : ℕ) × IsLimit ds q limit
+pub some_limit : (ds : List Domain) (q : Asked) → (limit : ℕ) × IsLimit ds q limit
 some_limit ds q = from (ends_either Downward downward (λ n. n ≡ q.profile.power_mbm) (λ n. (s : ℕ) × IsCovered q.chan s × SomeGoverning (λ g. Unit {0} × (n ≡ g.rule.eirp_mbm)) ds s)
     (ends_as Downward (λ n. Unit {0} × (n ≡ q.profile.power_mbm)) _ (λ n is. is.1) (λ n is. (tt, is)) (ends_one Downward downward (Unit {0}) q.profile.power_mbm (inl tt)))
     (ends_covered Downward downward (λ s n. SomeGoverning (λ g. Unit {0} × (n ≡ g.rule.eirp_mbm)) ds s) (ends_of_domains Downward downward (λ g. Unit {0}) (λ g. g.rule.eirp_mbm) (λ g. inl tt) ds) q.chan))

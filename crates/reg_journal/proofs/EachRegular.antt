@@ -107,7 +107,7 @@ power_goes db J x setting reply facts goes has free sets = by (operation_of J x.
 -- ---- checks
 
 -- what speaks against a check on the interface
-abbrev CheckCausesOn : List Domain → Journal → ChanDef → Bool → Iface → Refusal → Type 0
+abbrev pub CheckCausesOn : List Domain → Journal → ChanDef → Bool → Iface → Refusal → Type 0
 CheckCausesOn db J c failed x =
     Where (IsTrue (initiates x.kind) → ⊥) WrongType
     before Where (IsInUse J x) Busy

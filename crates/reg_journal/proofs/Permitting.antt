@@ -97,7 +97,7 @@ has_radar_width db J x c free sends s covered bound = elim (cases_lt (abilities_
 pub told_bound : (db : List Domain) (J : Journal) (r s : ℕ) → Told (IsBoundOn db J r s)
 told_bound db J r s = told_governing (λ g. IsTrue g.rule.flags.dfs) (λ g. told_true g.rule.flags.dfs) (applies db J r) s
 
-told_three : (P Q R : Type 0) → Told P → Told Q → Told R → Told (P × Q × R)
+pub told_three : (P Q R : Type 0) → Told P → Told Q → Told R → Told (P × Q × R)
 told_three P Q R p q r = told_as (λ is. (is.0, is.1.0, is.1.1)) (λ is. (is.0, (is.1, is.2))) (told_both p (told_both q r))
 
 is_quiet : (db : List Domain) (J : Journal) (x : Iface) (c : ChanDef) → IsFree (MetRadar db J x c) → OnEachBound db J x c (IsQuiet J x.radio)
@@ -107,7 +107,7 @@ is_quiet db J x c free sends s covered bound = elim (told_quiet J x.radio s) [
       (λ s. told_three _ _ _ (told_true (initiates x.kind)) (told_bound db J x.radio s) (told_not (IsQuiet J x.radio s) (told_quiet J x.radio s))) free s covered (sends, bound, never))
 ]
 
-told_none_stands : (db : List Domain) (J : Journal) (r s : ℕ) → Told (NoneStands db J r s)
+pub told_none_stands : (db : List Domain) (J : Journal) (r s : ℕ) → Told (NoneStands db J r s)
 told_none_stands db J r s = elim (some_stands db J r s) [
   | inl (end, is) ↦ inr (λ none. none end is)
   | inr none ↦ inl none

@@ -56,7 +56,7 @@ short_found db a d is found = by (find (λ e. is_same_code e.alpha2 a) db) refl 
       | inr other ↦ absurd (none-some d (rw other at same))
     ]
 
-contains_filter_map : {X Y : Type 0} (g : X → Option Y) (xs : List X) (y : Y) → Contains (filter_map g xs) y → (x : X) × Contains xs x × (g x ≡ Some y)
+pub contains_filter_map : {X Y : Type 0} (g : X → Option Y) (xs : List X) (y : Y) → Contains (filter_map g xs) y → (x : X) × Contains xs x × (g x ≡ Some y)
 contains_filter_map g [] y has = absurd (Contains-nothing y has)
 contains_filter_map {X} {Y} g (x ∷ xs) y has = by (g x) refl (contains_filter_map g xs y)
   where
@@ -67,7 +67,7 @@ contains_filter_map {X} {Y} g (x ∷ xs) y has = by (g x) refl (contains_filter_
       | inr later ↦ let found = rest later in (found.0, Contains-later x xs found.0 found.1, found.2)
     ]
 
-of_option : {X : Type 0} (o : Option X) (x : X) → Contains (option_to_list o) x → o ≡ Some x
+pub of_option : {X : Type 0} (o : Option X) (x : X) → Contains (option_to_list o) x → o ≡ Some x
 of_option None x has = absurd (Contains-nothing x has)
 of_option (Some y) x has = elim (Contains-cases y [] x has) [ inl same ↦ ap Some same | inr none ↦ absurd (Contains-nothing x none) ]
 

@@ -43,14 +43,14 @@ told_maybe_wmm : (w : Option Wmm) → Told (IfSome w IsValidWmm)
 told_maybe_wmm None = inl tt
 told_maybe_wmm (Some w) = told_wmm w
 
-told_rule : (r : Rule) → Told (IsValidRule r)
+pub told_rule : (r : Rule) → Told (IsValidRule r)
 told_rule r = told_as
     (λ t. record { above_zero = t.0; in_order = t.1.0; wide_enough = t.1.1.0; wmm = t.1.1.1.0; end_fits = t.1.1.1.1.0; power_fits = t.1.1.1.1.1.0; check_fits = t.1.1.1.1.1.1 })
     (λ v. (v.above_zero, (v.in_order, (v.wide_enough, (v.wmm, (v.end_fits, (v.power_fits, v.check_fits)))))))
     (told_both (told_lt 0 r.start_khz) (told_both (told_lt r.start_khz r.end_khz) (told_both (told_le r.max_bw_khz _) (told_both (told_maybe_wmm r.wmm)
     (told_both (told_lt r.end_khz _) (told_both (told_lt r.eirp_mbm _) (told_lt r.cac_s _)))))))
 
-all_valid : (rules : List Rule) → ((k : ℕ) → IsFirst (IsInvalidAt rules) k → ⊥) → All IsValidRule rules
+pub all_valid : (rules : List Rule) → ((k : ℕ) → IsFirst (IsInvalidAt rules) k → ⊥) → All IsValidRule rules
 all_valid rules none = elim (first_or_none (λ rule. IsValidRule rule → ⊥) (λ rule. told_not (IsValidRule rule) (told_rule rule)) rules) [
   | inl (k, first) ↦ absurd (none k first)
   | inr each ↦ All-weaker (λ rule. (IsValidRule rule → ⊥) → ⊥) IsValidRule (λ rule twice. elim (told_rule rule) [ inl valid ↦ valid | inr never ↦ absurd (twice never) ]) rules each

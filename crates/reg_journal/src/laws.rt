@@ -2,6 +2,7 @@
 
 ghost use Rattle.std.specs.Prelude.{◌≡◌, ◌≢◌, ◌↔◌, ℕ, AllPairs, IsTrue, ◌⊎◌, List, [], ◌∷◌, Bool, false, Contains, Some, IsSomeAnd};
 ghost use Rattle.rule_tables.specs.declared.code.Region.TheVariants.{Etsi};
+ghost use Rattle.rule_tables.specs.Databases.{IsDb};
 ghost use Rattle.rule_tables.specs.declared.domain.Domain.{Domain};
 ghost use Rattle.chan_def.specs.declared.definition.ChanDef.{ChanDef};
 ghost use Rattle.chan_def.specs.declared.kind.Kind.{Kind};
@@ -31,6 +32,12 @@ ghost use Rattle.reg_journal.specs.declared.request.Request.{Request};
 pub fn one_reply()
     ensures { (db : List Domain) (journal : Journal) (q : Request) (failed : Bool) (one other : Reply) (facts others : List Fact)
         → Replies db journal q failed one facts → Replies db journal q failed other others → (one ≡ other) × (facts ≡ others) }
+{}
+
+/// Over a database, and a journal each fact of which came where it might, there is a reply to each request.
+pub fn some_reply()
+    ensures { (db : List Domain) (journal : Journal) (q : Request) (failed : Bool) → IsDb db → EachMayFollow db journal
+        → (reply : Reply) × (facts : List Fact) × Replies db journal q failed reply facts }
 {}
 
 /// There is one state for each subchannel over each journal.
