@@ -47,6 +47,7 @@ call_of db (radio_added q profile) J r = region_call db (radio_added q profile) 
 call_of db (radio_removed q) J r = region_call db (radio_removed q) J r
 call_of db f J r = None
 
+-- the call before the others, where there is one
 abbrev pub pushed : Option Call → List Call → List Call
 pushed None calls = calls
 pushed (Some call) calls = call ∷ calls

@@ -22,6 +22,7 @@ use Rattle.reg_core.specs.declared.radio.RadioPlace.TheVariants.{Free, Removed, 
 
 -- ---- interfaces
 
+-- an operation as it is kept
 abbrev pub kept_operation : Operation → Running
 kept_operation o = record { chan = o.chan; power_mbm = o.power }
 
@@ -54,6 +55,7 @@ pub record KeepsRadio (db : List Domain) (J : Journal) (r : ℕ) (radio : Radio)
   pub records : AreRecords (applies db J r) radio.chans.chans
   pub book : BookStandsFor radio.book (map (λ c. c.khz) radio.chans.chans) (opening_of db r) (calls_of db J r)
 
+-- a place for a radio: free where its number was never used, removed where its radio has gone, and else with what is kept of it
 abbrev pub KeepsPlace : List Domain → Journal → ℕ → RadioPlace → Type 0
 KeepsPlace db J r Free = is_used J r ≡ false
 KeepsPlace db J r Removed = (is_used J r ≡ true) × (profile_of J r ≡ None)
@@ -65,6 +67,7 @@ radio_in Free = None
 radio_in Removed = None
 radio_in (There radio) = Some radio
 
+-- each of the eight places is kept so
 abbrev pub KeepsRadios : List Domain → Journal → List RadioPlace → Type 0
 KeepsRadios db J places = (r : ℕ) → r < 8 → KeepsPlace db J r (slice_index_or places r Free)
 
