@@ -37,3 +37,5 @@ pub mod Deciding
 pub mod Answering
 pub mod Showing
 pub mod SomeReply
+pub mod Asked
+pub mod Coded

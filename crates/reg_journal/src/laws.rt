@@ -1,6 +1,6 @@
 //! Laws over all journals.
 
-ghost use Rattle.std.specs.Prelude.{◌≡◌, ◌≢◌, ◌↔◌, ℕ, AllPairs, IsTrue, ◌⊎◌, List, [], ◌∷◌, Bool, false, Contains, Some, IsSomeAnd};
+ghost use Rattle.std.specs.Prelude.{◌≡◌, ◌≢◌, ◌↔◌, ℕ, ◌<◌, ◌≤◌, AllPairs, IsTrue, ◌⊎◌, List, [], ◌∷◌, Bool, false, Contains, Some, IsSomeAnd, Option, Result};
 ghost use Rattle.rule_tables.specs.declared.code.Region.TheVariants.{Etsi};
 ghost use Rattle.rule_tables.specs.Databases.{IsDb};
 ghost use Rattle.rule_tables.specs.declared.domain.Domain.{Domain};
@@ -9,7 +9,9 @@ ghost use Rattle.chan_def.specs.declared.kind.Kind.{Kind};
 ghost use Rattle.dfs_states.specs.declared.dfs.Dfs.{Dfs};
 ghost use Rattle.radio_drv.specs.declared.on_air.OnAir.{OnAir};
 ghost use Rattle.reg_journal.specs.Applicable.{region_of};
+ghost use Rattle.reg_journal.specs.Asking.{IsStateOn, WouldCheck, WouldStart};
 ghost use Rattle.reg_journal.specs.Causes.{IsFree};
+ghost use Rattle.reg_journal.specs.Codes.{code_and_errno};
 ghost use Rattle.reg_journal.specs.Due.{EachMayFollow};
 ghost use Rattle.reg_journal.specs.Effects.{HasFewEffects};
 ghost use Rattle.reg_journal.specs.Facts.{Fact, Journal, after, started};
@@ -22,6 +24,7 @@ ghost use Rattle.reg_journal.specs.Replies.{IsRegular, Replies};
 ghost use Rattle.reg_journal.specs.Settled.{AreSettled, IsSettled};
 ghost use Rattle.reg_journal.specs.Sweep.{AreSwept};
 ghost use Rattle.reg_journal.specs.declared.effects.Effect.{Effect};
+ghost use Rattle.reg_journal.specs.declared.refusal.Refusal.{Refusal};
 ghost use Rattle.reg_journal.specs.declared.reply.Answer.TheVariants.{Checking, Started};
 ghost use Rattle.reg_journal.specs.declared.reply.Reply.{Reply};
 ghost use Rattle.reg_journal.specs.declared.reply.Reply.TheVariants.{Plain};
@@ -119,4 +122,28 @@ pub fn on_air_in_order()
     ensures once { (db : List Domain) (journal : Journal) (r : ℕ) → EachMayFollow db journal → AllPairs (λ a b. a.iface ≢ b.iface) (on_air_of journal r) }
     ensures order { (db : List Domain) (journal : Journal) (r : ℕ) → EachMayFollow db journal
         → AllPairs (λ a b. StartedBefore journal a.iface b.iface) (on_air_of journal r) }
+{}
+
+/// There is one answer to what a start would come to, and to what a check would.
+pub fn one_forecast()
+    ensures some_start { (db : List Domain) (journal : Journal) (name : List ℕ) (kind : Kind) (c : ChanDef)
+        → (answer : Result ℕ Refusal) × WouldStart db journal name kind c answer }
+    ensures one_start { (db : List Domain) (journal : Journal) (name : List ℕ) (kind : Kind) (c : ChanDef) (one other : Result ℕ Refusal)
+        → WouldStart db journal name kind c one → WouldStart db journal name kind c other → one ≡ other }
+    ensures some_check { (db : List Domain) (journal : Journal) (name : List ℕ) (c : ChanDef)
+        → (answer : Result (ℕ × ℕ) Refusal) × WouldCheck db journal name c answer }
+    ensures one_check { (db : List Domain) (journal : Journal) (name : List ℕ) (c : ChanDef) (one other : Result (ℕ × ℕ) Refusal)
+        → WouldCheck db journal name c one → WouldCheck db journal name c other → one ≡ other }
+{}
+
+/// There is one answer to the state of each centre: none exactly where the radio isn't there.
+pub fn one_state_of_each_centre()
+    ensures some { (db : List Domain) (journal : Journal) (r s : ℕ) → (answer : Option Dfs) × IsStateOn db journal r s answer }
+    ensures one { (db : List Domain) (journal : Journal) (r s : ℕ) (one other : Option Dfs)
+        → IsStateOn db journal r s one → IsStateOn db journal r s other → one ≡ other }
+{}
+
+/// The code of each refusal is from 20 to 54, and its errno isn't 0.
+pub fn refusals_have_codes()
+    ensures { (e : Refusal) → (20 ≤ (code_and_errno e).0) × ((code_and_errno e).0 ≤ 54) × (0 < (code_and_errno e).1) }
 {}
