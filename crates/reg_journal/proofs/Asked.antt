@@ -1,13 +1,10 @@
 -- There is one answer to each question.
-use Rattle.std.proofs.Common.{◌≡◌, ℕ, ◌⊎◌, false, List, Option, None, Some, IsSome, IsSomeAnd, Result, Ok, Err, is_some, refl, sym, ap, subst, ◌∙◌, inl, inr}
+use Rattle.std.proofs.Common.{◌≡◌, ℕ, false, List, Option, None, Some, IsSomeAnd, Result, Ok, Err, is_some, refl, sym, ap, subst, ◌∙◌, inl, inr}
 use Rattle.std.proofs.lemmas.Bool.{false≢true}
-use Rattle.std.proofs.lemmas.Option.{none-some}
 use Rattle.rule_tables.specs.declared.domain.Domain.{Domain}
 use Rattle.chan_def.specs.declared.definition.ChanDef.{ChanDef}
 use Rattle.chan_def.specs.declared.kind.Kind.{Kind}
-use Rattle.chan_flags.specs.Lists.{IsRadioChannel}
 use Rattle.chan_flags.specs.Verdicts.{power_of}
-use Rattle.chan_flags.specs.declared.verdict.PowerSetting.{PowerSetting}
 use Rattle.chan_flags.proofs.OneAnswer.{IsCheckLength-unique, IsLimit-unique}
 use Rattle.chan_flags.proofs.Told.{told_radio_channel}
 use Rattle.chan_flags.specs.Profiles.{Abilities}
@@ -15,22 +12,19 @@ use Rattle.dfs_states.specs.declared.dfs.Dfs.{Dfs}
 use Rattle.dfs_states.specs.declared.dfs.Dfs.TheVariants.{Usable}
 use Rattle.reg_journal.specs.Applicable.{applies}
 use Rattle.reg_journal.specs.Asking.{IsStateOn, WouldCheck, WouldStart}
-use Rattle.reg_journal.specs.Causes.{IsFree}
 use Rattle.reg_journal.specs.Facts.{Journal}
 use Rattle.reg_journal.specs.Permits.{asked_by, IsLengthOf, IsLimitOf, IsPowerOf}
 use Rattle.reg_journal.specs.Present.{Iface, abilities_of, named, profile_of}
-use Rattle.reg_journal.specs.Radar.{IsChannelState, IsState}
-use Rattle.reg_journal.specs.Refusals.{CheckCauses, LacksIface, OnIface, StartCauses}
+use Rattle.reg_journal.specs.Radar.{IsChannelState}
+use Rattle.reg_journal.specs.Refusals.{LacksIface}
 use Rattle.reg_journal.specs.declared.refusal.Refusal.{Refusal}
 use Rattle.reg_journal.proofs.Answering.{cause-check, cause-start}
 use Rattle.reg_journal.proofs.Deciding.{length_for, limit_of, power_for}
-use Rattle.reg_journal.proofs.EachRegular.{CheckCausesOn}
 use Rattle.reg_journal.proofs.OneRefusal.{one-check, one-start}
 use Rattle.reg_journal.proofs.OneReply.{one-state}
 use Rattle.reg_journal.proofs.Operations.{some_value}
 use Rattle.reg_journal.proofs.Permitting.{free-first, never_where}
 use Rattle.reg_journal.proofs.Regular.{is_there}
-use Rattle.reg_journal.proofs.Starting.{StartCausesOn}
 use Rattle.reg_journal.proofs.ToldStates.{some_state}
 
 pub some_start : (db : List Domain) (J : Journal) (name : List ℕ) (kind : Kind) (c : ChanDef) → (answer : Result ℕ Refusal) × WouldStart db J name kind c answer

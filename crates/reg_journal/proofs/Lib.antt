@@ -39,3 +39,4 @@ pub mod Showing
 pub mod SomeReply
 pub mod Asked
 pub mod Coded
+pub mod WorkedRows

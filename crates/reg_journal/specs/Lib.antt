@@ -17,3 +17,4 @@ pub mod Granted
 pub mod Settled
 pub mod Asking
 pub mod Codes
+pub mod Rows
