@@ -1,10 +1,10 @@
 -- There is a reply to each request.
-use Rattle.std.proofs.Common.{◌≡◌, ◌≢◌, ℕ, ◌+◌, ◌%◌, ◌<◌, ◌≤◌, ◌⊎◌, ◌||◌, Bool, true, false, cond, List, [], ◌∷◌, length, map, All, Contains, Option, Some, None, IsSome, IsSomeAnd, IsTrue, MatchOption, slice_index, arith, refl, sym, ap, subst, ◌∙◌, inl, inr, eq-eqb}
+use Rattle.std.proofs.Common.{◌≡◌, ◌≢◌, ℕ, ◌%◌, ◌<◌, ◌≤◌, ◌⊎◌, Bool, false, List, [], ◌∷◌, length, map, Option, Some, None, IsSome, IsSomeAnd, IsTrue, MatchOption, slice_index, arith, refl, sym, ap, subst, ◌∙◌, inl, inr, eq-eqb}
 use Rattle.std.proofs.lemmas.Bool.{cases_eq, cases_lt, false≢true}
 use Rattle.std.proofs.lemmas.Option.{none-some, same_Some}
 use Rattle.freq_range.specs.First.{IsFirst}
 use Rattle.freq_range.specs.declared.rule.Rule.{Rule}
-use Rattle.freq_range.proofs.Deciding.{Told, tells_bool, told_as, told_both, told_le, told_lt}
+use Rattle.freq_range.proofs.Deciding.{Told, told_as, told_both, told_le, told_lt}
 use Rattle.freq_range.proofs.Members.{Contains-cases}
 use Rattle.rule_tables.specs.Code.{IsCapital}
 use Rattle.rule_tables.specs.Databases.{IsDb}
@@ -23,24 +23,24 @@ use Rattle.chan_flags.specs.declared.verdict.PowerSetting.{PowerSetting}
 use Rattle.chan_flags.proofs.Existing.{told_not, told_true}
 use Rattle.chan_flags.proofs.Told.{told_either}
 use Rattle.reg_hints.specs.Element.{HasLetters, IsElement, IsElementFault}
-use Rattle.reg_hints.specs.Table.{Hinted, Own, Treated, IsOneTooMany, treatment}
+use Rattle.reg_hints.specs.Table.{Hinted, Own, Treated, treatment}
 use Rattle.reg_hints.specs.declared.codes.TheConstants.{MOST_CODES}
 use Rattle.reg_hints.specs.declared.element.Element.{Element}
-use Rattle.reg_hints.specs.declared.element.ElementFault.TheVariants.{Short, Odd, NotLetters}
+use Rattle.reg_hints.specs.declared.element.ElementFault.TheVariants.{Short, Odd}
 use Rattle.reg_hints.specs.declared.hint.Treatment.{Treatment}
 use Rattle.reg_hints.specs.declared.hint.Treatment.TheVariants.{Replace, Intersect, Already, Ignore}
 use Rattle.dfs_states.specs.declared.moments.TheConstants.{LAST_MOMENT_MS}
 use Rattle.reg_journal.specs.Applicable.{applies, find_domain, global_domains, hints_of}
-use Rattle.reg_journal.specs.Causes.{IsFree, SomeComes, ◌before◌, Where}
+use Rattle.reg_journal.specs.Causes.{IsFree, ◌before◌, Where}
 use Rattle.reg_journal.specs.Due.{EachMayFollow}
 use Rattle.reg_journal.specs.Effects.{effects_of}
-use Rattle.reg_journal.specs.Facts.{Fact, Journal, check_begun, hinted, powered, rules_are, set_to, started}
-use Rattle.reg_journal.specs.Permits.{BarsCheck, BarsOperation, HasNothingToCheck, IsLengthOf, IsLimitOf, IsPowerOf}
-use Rattle.reg_journal.specs.Present.{Check as RunningCheck, Iface, Operation, check_of, custom_rules_of, ifaces_on, is_used, made_of, most_made, named, now_of, operation_of, profile_of, radios_of, with_setting}
-use Rattle.reg_journal.specs.Refusals.{AddsFifthCode, ElementCauses, FailsDriver, HintCauses, IfaceAddCauses, InUseFor, InvalidChannel, IsInUse, LacksIface, LacksRadio, MomentCauses, OnIface, RadarCauses, RadioAddCauses, RowCauses, RulesCauses, SetPowerCauses, SetTypeCauses, StartCauses, StopCauses, CheckCauses, all_lists}
+use Rattle.reg_journal.specs.Facts.{Fact, Journal, hinted, powered, rules_are, set_to}
+use Rattle.reg_journal.specs.Permits.{BarsCheck, BarsOperation, HasNothingToCheck, IsLimitOf, IsPowerOf}
+use Rattle.reg_journal.specs.Present.{Iface, Operation, check_of, ifaces_on, is_used, made_of, most_made, named, now_of, operation_of, profile_of, radios_of, with_setting}
+use Rattle.reg_journal.specs.Refusals.{AddsFifthCode, ElementCauses, FailsDriver, HintCauses, IfaceAddCauses, InUseFor, InvalidChannel, IsInUse, LacksIface, LacksRadio, MomentCauses, OnIface, RadarCauses, RadioAddCauses, RulesCauses, SetPowerCauses, SetTypeCauses, StartCauses, StopCauses, CheckCauses, all_lists}
 use Rattle.reg_journal.specs.Replies.{Decides, Gives, GivesEffects, OnNamed, SetsPower, Sweeps}
 use Rattle.reg_journal.specs.declared.refusal.Refusal.{Refusal}
-use Rattle.reg_journal.specs.declared.refusal.Refusal.TheVariants.{BadChannel, BadRule, Busy, DriverFailed, ElementNotLetters, ElementOdd, ElementShort, Full, MomentBack, MomentTooLarge, NameTaken, NoCountry, NoRules, NotRunning, NothingToCheck, Power, TooManyDomains, TooManyRules, WrongType}
+use Rattle.reg_journal.specs.declared.refusal.Refusal.TheVariants.{BadRule, Busy, ElementNotLetters, ElementOdd, ElementShort, MomentTooLarge, NameTaken, NoCountry, NoRules, NotRunning, NothingToCheck, Power, TooManyDomains, TooManyRules, WrongType}
 use Rattle.reg_journal.specs.declared.reply.Answer.{Answer}
 use Rattle.reg_journal.specs.declared.reply.Answer.TheVariants.{Ok, Refused}
 use Rattle.reg_journal.specs.declared.reply.Reply.{Reply}
@@ -195,17 +195,20 @@ cause-element body =
 
 -- a body without a fault is an element's
 pub some_element : (body : List ℕ) → IsFree (ElementCauses body) → (e : Element) × IsElement body e
-some_element body free = (record { alpha2 = record { a = slice_index body 0; b = slice_index body 1 }; environment = slice_index body 2 }, record {
-  long = long;
-  even = even (length body % 2) refl (omega arith);
-  letters = elim (told_letters body) [
-    | inl letters ↦ letters
-    | inr never ↦ absurd (free ElementNotLetters (inr (λ e cause. short e cause, inr (λ e cause. odd e cause, ((long, even (length body % 2) refl (omega arith), never), refl)))))
-  ];
-  first = refl;
-  second = refl;
-  environment = refl;
-})
+some_element body free = (
+  record { alpha2 = record { a = slice_index body 0; b = slice_index body 1 }; environment = slice_index body 2 },
+  record {
+    long = long;
+    even = even (length body % 2) refl (omega arith);
+    letters = elim (told_letters body) [
+      | inl letters ↦ letters
+      | inr never ↦ absurd (free ElementNotLetters (inr (λ e cause. short e cause, inr (λ e cause. odd e cause, ((long, even (length body % 2) refl (omega arith), never), refl)))))
+    ];
+    first = refl;
+    second = refl;
+    environment = refl;
+  },
+)
   where
     short : IsFree (λ e. (n : ℕ) × IsElementFault body (Short n) × (e ≡ ElementShort n))
     short e cause = free e (inl cause)
@@ -255,7 +258,7 @@ pub cause-start : (db : List Domain) (J : Journal) (name : List ℕ) (kind : Kin
 cause-start db J name kind c failed = cause-on_iface J name (StartCausesOn db J kind c failed) (λ x.
     cause-before (Where (x.kind ≢ kind) WrongType) _ (cause-where _ _ (told_not (x.kind ≡ kind) (tells_kind x.kind kind))) (λ of_kind.
     cause-before (Where (InUseFor J x kind) Busy) _ (cause-where _ _ (told_either (told_some (check_of J x.index))
-        (told_both (told_some (operation_of J x.index)) (told_not (kind ≡ Monitor) (tells_kind kind Monitor))))) (λ unused.
+    (told_both (told_some (operation_of J x.index)) (told_not (kind ≡ Monitor) (tells_kind kind Monitor))))) (λ unused.
     cause-before (InvalidChannel c) _ (cause-invalid c) (λ valid.
     cause-before (BarsOperation db J x c) _ (cause-bars_operation db J x c) (λ may. cause-fails failed)))))
 

@@ -1,5 +1,5 @@
 -- Some cause comes, or none does; and so a sweep has its facts.
-use Rattle.std.proofs.Common.{◌≡◌, ◌≢◌, ℕ, ◌<◌, ◌≤◌, ◌⊎◌, List, [], ◌∷◌, ◌++◌, length, Option, Some, None, IsSomeAnd, IsTrue, MatchOption, arith, refl, sym, ap, subst, ◌∙◌, inl, inr}
+use Rattle.std.proofs.Common.{◌≡◌, ◌≢◌, ℕ, ◌⊎◌, List, [], ◌∷◌, ◌++◌, length, Option, Some, None, MatchOption, refl, sym, subst, inl, inr}
 use Rattle.std.specs.Option.{option_to_list}
 use Rattle.std.proofs.lemmas.Bool.{cases_eq}
 use Rattle.freq_range.proofs.Deciding.{Told, told_as, told_both, told_lt}
@@ -18,10 +18,10 @@ use Rattle.reg_journal.specs.Causes.{IsFree, SomeComes, ◌before◌, Where, AtL
 use Rattle.reg_journal.specs.Facts.{Fact, Journal, stopped, powered, check_begun, check_dropped}
 use Rattle.reg_journal.specs.Permits.{asked_by, channels_beside, distinct, width_mhz, IsBoundOn, IsLengthOf, IsLimitOf, IsPowerOf, LacksChannel, LacksWidth, LacksContext, RulesForbid, PassesLimit, LacksRadarWidth, MetRadar, LacksCheck, HasNothingToCheck, EndsOperation, EndsCheck, BarsOperation, BarsCheck}
 use Rattle.reg_journal.specs.Present.{Check, Iface, Operation, abilities_of, check_of, operation_of}
-use Rattle.reg_journal.specs.Radar.{HasCheck, IsQuiet, NoneStands, Stands}
+use Rattle.reg_journal.specs.Radar.{HasCheck, IsQuiet, NoneStands}
 use Rattle.reg_journal.specs.Sweep.{AreSwept, Becomes, CheckBecomes, MustDrop, OperationBecomes, RegionChangedInCheck}
 use Rattle.reg_journal.specs.declared.refusal.Refusal.{Refusal}
-use Rattle.reg_journal.specs.declared.refusal.Refusal.TheVariants.{RadioLacks, RadioLacksWidth, RadioLacksContext, NoRule, Width as TooNarrow, NoOfdm, NoIr, NoOutdoor, Power, RadioLacksRadarWidth, Radar, Unchecked}
+use Rattle.reg_journal.specs.declared.refusal.Refusal.TheVariants.{RadioLacks, NoRule, Width as TooNarrow, NoOfdm, NoIr, NoOutdoor, Power, Radar, Unchecked}
 use Rattle.reg_journal.proofs.Granting.{not_above}
 use Rattle.reg_journal.proofs.Permitting.{told_bound, told_none_stands, told_three}
 use Rattle.reg_journal.proofs.Splitting.{SomeSplit, told_split}

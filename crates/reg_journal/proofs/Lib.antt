@@ -37,3 +37,6 @@ pub mod Deciding
 pub mod Answering
 pub mod Showing
 pub mod SomeReply
+pub mod Asked
+pub mod Coded
+pub mod WorkedRows

@@ -1,17 +1,16 @@
 -- Where nothing ends an operation it may go on, and where nothing bars a start it is granted.
-use Rattle.std.proofs.Common.{◌≡◌, ℕ, ◌*◌, ◌/◌, ◌<◌, ◌≤◌, ◌⊎◌, true, List, [], ◌∷◌, length, IsTrue, arith, refl, sym, ap, subst, inl, inr}
+use Rattle.std.proofs.Common.{ℕ, ◌≤◌, true, List, [], ◌∷◌, length, IsTrue, arith, refl, inl, inr}
 use Rattle.std.proofs.lemmas.Bool.{cases_lt}
 use Rattle.freq_range.specs.Channels.{IsCentre}
 use Rattle.freq_range.specs.declared.channel.Band.{Band}
 use Rattle.freq_range.specs.declared.channel.Band.TheVariants.{Ghz2, Ghz5, Ghz6}
 use Rattle.freq_range.proofs.Deciding.{Told, told_as, told_both}
 use Rattle.rule_tables.specs.declared.domain.Domain.{Domain}
-use Rattle.chan_def.specs.Covered.{width_khz, IsCovered, IsValidDef}
+use Rattle.chan_def.specs.Covered.{IsValidDef}
 use Rattle.chan_def.specs.Kinds.{initiates}
 use Rattle.chan_def.specs.declared.definition.ChanDef.{ChanDef}
-use Rattle.chan_flags.specs.Lists.{IsRadioChannel}
 use Rattle.chan_flags.specs.Profiles.{has_band}
-use Rattle.chan_flags.specs.Verdicts.{Bars, BarsFirst, BarsNone, HasWidth, IsAbove, IsWithinLimit, NoneBars}
+use Rattle.chan_flags.specs.Verdicts.{Bars, BarsNone, HasWidth, IsWithinLimit, NoneBars}
 use Rattle.chan_flags.specs.declared.asked.Obstacle.{Obstacle}
 use Rattle.chan_flags.specs.declared.asked.Obstacle.TheVariants.{Missing, Unruled, Narrow, OfdmBarred, IrBarred, OutdoorBarred}
 use Rattle.chan_flags.specs.declared.profile.Bands.{Bands}
@@ -28,7 +27,7 @@ use Rattle.reg_journal.specs.Granted.{IsGranted, IsPermitted}
 use Rattle.reg_journal.specs.Settled.{IsCheckPermitted}
 use Rattle.reg_journal.specs.Sweep.{MustDrop}
 use Rattle.reg_journal.specs.declared.refusal.Refusal.{Refusal}
-use Rattle.reg_journal.specs.declared.refusal.Refusal.TheVariants.{RadioLacks, RadioLacksWidth, RadioLacksContext, NoRule, Width as TooNarrow, NoOfdm, NoIr, NoOutdoor, Power, RadioLacksRadarWidth, Radar, Unchecked}
+use Rattle.reg_journal.specs.declared.refusal.Refusal.TheVariants.{RadioLacks, NoRule, Width as TooNarrow, NoOfdm, NoIr, NoOutdoor, Power, Radar, Unchecked}
 use Rattle.reg_journal.proofs.Granting.{OnEachBound, whole_mhz}
 use Rattle.reg_journal.proofs.ToldStates.{some_stands, told_quiet}
 

@@ -1,38 +1,37 @@
 -- Whether the lists of domains that apply have too many rows, and that they have rows.
-use Rattle.std.proofs.Common.{◌≡◌, ℕ, zero, suc, ◌+◌, ◌<◌, ◌≤◌, ◌⊎◌, Bool, true, false, List, [], ◌∷◌, ◌++◌, length, All, Contains, find, get_or, slice_get, Option, Some, None, IsSome, option_and_then, if◌then◌else◌, arith, refl, sym, ap, subst, ◌∙◌, inl, inr, eq-eqb, ne_eqb, append-nil, append_assoc}
+use Rattle.std.proofs.Common.{◌≡◌, ℕ, zero, suc, ◌<◌, ◌⊎◌, Bool, true, false, List, [], ◌∷◌, ◌++◌, length, All, Contains, find, Option, Some, None, IsSome, option_and_then, if◌then◌else◌, arith, refl, sym, ap, subst, inl, inr, eq-eqb, ne_eqb, append-nil, append_assoc}
 use Rattle.std.specs.List.{cons_option, filter_map}
-use Rattle.std.specs.Option.{option_map, option_to_list}
-use Rattle.std.proofs.lemmas.Bool.{cases_Bool, cases_eq, cases_lt}
+use Rattle.std.specs.Option.{option_map}
+use Rattle.std.proofs.lemmas.Bool.{cases_Bool, cases_eq}
 use Rattle.std.proofs.lemmas.List.{length-append}
 use Rattle.std.proofs.lemmas.List.Elements.{All-contains, All-nil, Contains-append_cases, filter_map-append}
-use Rattle.std.proofs.lemmas.Option.{get_or_from_slice_get, none-some, same_Some, slice_get_within}
+use Rattle.std.proofs.lemmas.Option.{none-some, same_Some}
 use Rattle.freq_range.specs.First.{IsFirst}
 use Rattle.freq_range.specs.Valid.{IsValidRule}
 use Rattle.freq_range.specs.declared.rule.Rule.{Rule}
 use Rattle.freq_range.proofs.Deciding.{Told}
-use Rattle.freq_range.proofs.Members.{Contains-cases, Contains-head, Contains-later, Contains-nothing}
+use Rattle.freq_range.proofs.Members.{Contains-head, Contains-later, Contains-nothing}
 use Rattle.rule_tables.specs.Code.{is_same_code}
 use Rattle.rule_tables.specs.Databases.{IsDb, IsDomain}
 use Rattle.rule_tables.specs.Domains.{AreRules}
 use Rattle.rule_tables.specs.World.{custom_domain, world, world_domain}
 use Rattle.rule_tables.specs.declared.code.Alpha2.{Alpha2}
 use Rattle.rule_tables.specs.declared.domain.Domain.{Domain}
-use Rattle.rule_tables.proofs.Governed.{IsAt, first_or_none}
-use Rattle.rule_intersect.specs.Tables.{AreRows, IsTableOf, IsTooMany, Joined}
+use Rattle.rule_intersect.specs.Tables.{AreRows, IsTooMany}
 use Rattle.rule_intersect.specs.declared.row.Row.{Row}
 use Rattle.rule_intersect.proofs.Answered.{table_or_too_many}
 use Rattle.rule_intersect.proofs.Extended.{AreRows-more}
 use Rattle.rule_intersect.proofs.OneTable.{no_table_of_too_many}
 use Rattle.rule_intersect.proofs.Ordered.{All-from_members}
-use Rattle.rule_intersect.proofs.OwnRows.{element_at, some_own_rows}
+use Rattle.rule_intersect.proofs.OwnRows.{some_own_rows}
 use Rattle.rule_intersect.proofs.Resolved.{IsTableOf-first}
-use Rattle.reg_hints.specs.Table.{Own, State, Treated, after_hint, as_last, hinted_code, is_drivers, left_by, no_hints, treatment}
+use Rattle.reg_hints.specs.Table.{Own, State, Treated, after_hint, as_last, hinted_code, is_drivers, left_by, treatment}
 use Rattle.reg_hints.specs.declared.hint.Hint.{Hint}
 use Rattle.reg_hints.specs.declared.hint.Treatment.{Treatment}
 use Rattle.reg_hints.specs.declared.hint.Treatment.TheVariants.{Replace, Intersect, Already, Ignore}
 use Rattle.reg_journal.specs.Applicable.{applies, custom_domains, driver_code_of, driver_domains, find_domain, global_domains, hints_of, is_self_managed, or_nothing, or_world, shared_domains}
 use Rattle.reg_journal.specs.Due.{EachMayFollow}
-use Rattle.reg_journal.specs.Facts.{Fact, Journal, hinted, rules_are}
+use Rattle.reg_journal.specs.Facts.{Journal, hinted, rules_are}
 use Rattle.reg_journal.specs.Present.{custom_rules_of}
 use Rattle.reg_journal.specs.Refusals.{HasTooManyRows, IsTooLongAt, RowCauses}
 use Rattle.reg_journal.specs.declared.refusal.Refusal.{Refusal}

@@ -1,5 +1,5 @@
 -- There is what a request shows: sections, channels, radios and interfaces.
-use Rattle.std.proofs.Common.{◌≡◌, ℕ, zero, suc, ◌+◌, ◌*◌, ◌<◌, ◌≤◌, ◌⊎◌, Bool, true, false, List, [], ◌∷◌, ◌++◌, length, map, filter, Contains, Option, Some, None, IsTrue, arith, refl, sym, ap, subst, ◌∙◌, inl, inr}
+use Rattle.std.proofs.Common.{◌≡◌, ℕ, zero, suc, ◌+◌, ◌*◌, ◌<◌, ◌≤◌, ◌⊎◌, List, [], ◌∷◌, ◌++◌, length, map, filter, Option, Some, None, IsTrue, arith, refl, sym, ap, subst, ◌∙◌, inl, inr}
 use Rattle.std.specs.List.{AllZip}
 use Rattle.std.specs.Option.{option_map}
 use Rattle.std.proofs.lemmas.Bool.{cases_Bool, true≢false}
@@ -8,7 +8,6 @@ use Rattle.freq_range.specs.declared.channel.Band.{Band}
 use Rattle.freq_range.specs.declared.channel.Band.TheVariants.{Ghz2, Ghz5, Ghz6}
 use Rattle.freq_range.proofs.Members.{Contains-head, Contains-later}
 use Rattle.rule_tables.specs.Databases.{IsDb}
-use Rattle.rule_tables.specs.World.{custom_domain}
 use Rattle.rule_tables.specs.declared.code.Region.{Region}
 use Rattle.rule_tables.specs.declared.domain.Domain.{Domain}
 use Rattle.rule_intersect.specs.Subchannels.{AreGoverning, SomeLacksRule}
@@ -64,7 +63,7 @@ pub some_sections : (db : List Domain) (J : Journal) → IsDb db → EachMayFoll
 some_sections db J is due =
     let first = some_section None (global_domains db J) (global_region db J) (global_some db J due) (inl (λ d has. global_rules db J d is has)) in
     let rest = some_zip (IsRadioSection db J) (λ r. some_section (Some r) (applies db J r) (region_of db J r) (applies_some db J r) (applies_sound db J r is (custom_are db J r due)))
-        (filter (has_own_list J) (radios_of J)) in
+    (filter (has_own_list J) (radios_of J)) in
     (first.0 ∷ rest.0, (first.1, rest.1))
 
 -- ---- channels

@@ -1,5 +1,5 @@
 -- There is a reply to each request, over each journal each fact of which came where it might.
-use Rattle.std.proofs.Common.{◌≡◌, ℕ, ◌+◌, ◌⊎◌, Bool, List, [], ◌∷◌, Option, Some, None, refl}
+use Rattle.std.proofs.Common.{◌≡◌, ℕ, ◌+◌, Bool, List, [], ◌∷◌, refl}
 use Rattle.rule_tables.specs.Databases.{IsDb}
 use Rattle.rule_tables.specs.declared.code.Alpha2.{Alpha2}
 use Rattle.rule_tables.specs.declared.domain.Domain.{Domain}
@@ -11,12 +11,12 @@ use Rattle.reg_hints.specs.declared.element.Element.{Element}
 use Rattle.reg_hints.specs.declared.hint.Hint.TheVariants.{User}
 use Rattle.reg_journal.specs.Causes.{IsFree, ◌before◌}
 use Rattle.reg_journal.specs.Due.{EachMayFollow}
-use Rattle.reg_journal.specs.Dumps.{AreSections, AreShownChannels, IsIfaceReport, IsRadioReport}
+use Rattle.reg_journal.specs.Dumps.{AreShownChannels, IsIfaceReport, IsRadioReport}
 use Rattle.reg_journal.specs.Facts.{Fact, Journal, check_begun, hinted, indoor_is, made, moment_is, radar_met, radio_added, rules_are, started, stopped, typed}
 use Rattle.reg_journal.specs.Permits.{IsLengthOf, IsPowerOf}
 use Rattle.reg_journal.specs.Present.{Iface, ifaces_of, ifaces_on, made_of}
 use Rattle.reg_journal.specs.Refusals.{CheckCauses, ElementCauses, HintCauses, IfaceAddCauses, LacksIface, LacksRadio, MomentCauses, OnIface, RadarCauses, RadioAddCauses, RulesCauses, SetPowerCauses, SetTypeCauses, StartCauses, StopCauses}
-use Rattle.reg_journal.specs.Replies.{Decides, Gives, GivesEffects, Hints, OnNamed, Replies, SetsPower, Shows, Sweeps, answer_of, driver_hint, element_hint, facts_of_end, facts_of_removal}
+use Rattle.reg_journal.specs.Replies.{Gives, GivesEffects, Hints, OnNamed, Replies, SetsPower, Shows, Sweeps, answer_of, driver_hint, element_hint, facts_of_end, facts_of_removal}
 use Rattle.reg_journal.specs.declared.refusal.Refusal.{Refusal}
 use Rattle.reg_journal.specs.declared.reply.Answer.TheVariants.{Ok, Hint as HintTaken, Started, Checking}
 use Rattle.reg_journal.specs.declared.reply.Reply.{Reply}
@@ -50,9 +50,9 @@ some_reply db J (HeardElement r body) failed is due =
     answered (LacksRadio J r before ElementCauses body) (λ reply facts. (e : Element) × IsElement body e × Hints db J e.alpha2 (element_hint J r e.alpha2) reply facts)
     (cause-before (LacksRadio J r) (ElementCauses body) (cause-radio J r) (λ there. cause-element body))
     (λ free.
-        let e = some_element body (free-next (LacksRadio J r) (ElementCauses body) free) in
-        let reply = some_hint db J (e.0).alpha2 (element_hint J r (e.0).alpha2) is due in
-        (reply.0, reply.1, (e.0, e.1, reply.2)))
+    let e = some_element body (free-next (LacksRadio J r) (ElementCauses body) free) in
+    let reply = some_hint db J (e.0).alpha2 (element_hint J r (e.0).alpha2) is due in
+    (reply.0, reply.1, (e.0, e.1, reply.2)))
 some_reply db J (DriverHint r a) failed is due = answered (LacksRadio J r) (Hints db J a (driver_hint J r a)) (cause-radio J r) (λ free. some_hint db J a (driver_hint J r a) is due)
 some_reply db J (UserHint a) failed is due = some_hint db J a (Treated (User a)) is due
 some_reply db J (Radar r c) failed is due = answered (RadarCauses J r c) (Sweeps db J Ok (radar_met r c) (ifaces_on J r)) (cause-radar J r c) (λ free. sweeps db J Ok (radar_met r c) (ifaces_on J r))

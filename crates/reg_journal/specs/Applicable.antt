@@ -1,15 +1,12 @@
 -- Which domains apply to a radio, and its region.
-use Rattle.std.specs.Prelude.{ℕ, ◌==◌, Bool, true, false, List, [], ◌∷◌, ◌++◌, map, find, Option, Some, None, option_and_then, if◌then◌else◌}
-use Rattle.std.specs.List.{filter_map, list_all}
+use Rattle.std.specs.Prelude.{ℕ, ◌==◌, Bool, List, [], ◌∷◌, ◌++◌, map, find, Option, Some, None, option_and_then, if◌then◌else◌}
+use Rattle.std.specs.List.{filter_map}
 use Rattle.std.specs.Option.{option_map, option_to_list}
-use Rattle.freq_range.specs.declared.flags.RuleFlags.{RuleFlags}
-use Rattle.freq_range.specs.declared.rule.Rule.{Rule}
 use Rattle.rule_tables.specs.Code.{is_same_code}
 use Rattle.rule_tables.specs.Regions.{common_region}
 use Rattle.rule_tables.specs.World.{custom_domain, world, world_domain}
 use Rattle.rule_tables.specs.declared.code.Alpha2.{Alpha2}
 use Rattle.rule_tables.specs.declared.code.Region.{Region}
-use Rattle.rule_tables.specs.declared.code.Region.TheVariants.{Unset}
 use Rattle.rule_tables.specs.declared.domain.Domain.{Domain}
 use Rattle.reg_hints.specs.Table.{Hinted, Treated, Own, State, after_all}
 use Rattle.reg_hints.specs.declared.hint.Hint.TheVariants.{User, Driver, Element}
