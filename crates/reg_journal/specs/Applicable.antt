@@ -33,11 +33,13 @@ driver_code_in (Treated (Driver q a) ∷ hints) r = if r == q then Some a else d
 driver_code_in (Treated (User a) ∷ hints) r = driver_code_in hints r
 driver_code_in (Treated (Element q a deaf) ∷ hints) r = driver_code_in hints r
 
+-- the code of the last hint of the radio's driver, or none
 abbrev pub driver_code_of : Journal → ℕ → Option Alpha2
 driver_code_of J r = driver_code_in (hinted_of J) r
 
 -- ---- domains
 
+-- the domain that was found, or, for the world's code, the built-in domain of the world
 abbrev pub or_world : Alpha2 → Option Domain → Option Domain
 or_world a (Some d) = Some d
 or_world a None = if is_same_code a world then Some world_domain else None
@@ -50,6 +52,7 @@ find_domain db a = or_world a (find (λ d. is_same_code d.alpha2 a) db)
 abbrev pub global_domains : List Domain → Journal → List Domain
 global_domains db J = filter_map (find_domain db) (hints_of J).global
 
+-- the radio takes no rules but its own
 abbrev pub is_self_managed : Journal → ℕ → Bool
 is_self_managed J r = (abilities_of J r).self_managed
 
