@@ -1,5 +1,5 @@
 -- There is a verdict on whatever is asked.
-use Rattle.std.proofs.Common.{◌≡◌, ℕ, ◌+◌, ◌-◌, ◌*◌, ◌/◌, ◌<◌, ◌≤◌, ◌⊎◌, false, List, Contains, IsTrue, arith, refl, sym, subst, ap, inl, inr}
+use Rattle.std.proofs.Common.{◌≡◌, ℕ, ◌+◌, ◌-◌, ◌*◌, ◌/◌, ◌<◌, ◌⊎◌, false, List, Contains, IsTrue, arith, refl, subst, inl, inr}
 use Rattle.std.proofs.lemmas.Bool.{cases_eq, cases_lt}
 use Rattle.freq_range.proofs.Deciding.{Told, tells_bool, told_any, told_as, told_both, told_lt}
 use Rattle.rule_tables.specs.Governing.{NoneGoverns}
