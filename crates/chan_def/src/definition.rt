@@ -5,10 +5,10 @@ ghost use Rattle.chan_def.specs.Covered.{width_khz, IsCovered, IsInside, IsSubch
 ghost use Rattle.chan_def.specs.Same.{is_same_channel};
 
 use crate::width::Width;
-use freq_range::khz_channel;
+use freq_range::{Band, khz_channel};
 
-/// The most subchannels of 20 MHz that a channel covers: those of 160 MHz.
-pub const MOST_SUBCHANNELS: u8 = 8;
+/// The most subchannels of 20 MHz that a channel covers: those of 320 MHz.
+pub const MOST_SUBCHANNELS: u8 = 16;
 
 /// A channel: where it lies, and its control channel (`struct cfg80211_chan_def`).
 #[derive(Clone, Copy, Debug, PartialEq, Eq)]
@@ -21,13 +21,18 @@ pub struct ChanDef {
 }
 
 impl ChanDef {
-    /// Whether the control channel is one of the channel table and one of the subchannels
-    /// (`cfg80211_chandef_valid`).
+    /// Whether the control channel is one of the channel table and one of the subchannels, and lies
+    /// in the 6 GHz band where the channel is wider than 160 MHz (`cfg80211_chandef_valid`).
     pub fn valid(&self) -> bool
         ensures valid { IsTrue result ↔ IsValidDef self.now }
     {
-        khz_channel(self.control_khz).is_some()
-            && is_inside(self.width.khz(), self.centre_khz, self.control_khz)
+        match khz_channel(self.control_khz) {
+            Some((band, _)) => {
+                (band == Band::Ghz6 || self.width != Width::W320)
+                    && is_inside(self.width.khz(), self.centre_khz, self.control_khz)
+            }
+            None => false,
+        }
     }
 
     /// Whether both are the same definition.

@@ -1,4 +1,4 @@
-//! Channels of 20 to 160 MHz, the channels of 20 MHz that they cover, and kinds of interfaces.
+//! Channels of 20 to 320 MHz, the channels of 20 MHz that they cover, and kinds of interfaces.
 #![tactic(auto)]
 
 mod definition;

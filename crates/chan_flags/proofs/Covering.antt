@@ -4,8 +4,9 @@ use Rattle.std.proofs.lemmas.Bool.{cases_lt}
 use Rattle.std.proofs.Common.{inl, inr}
 use Rattle.chan_def.specs.Covered.{width_khz, IsCovered, IsSubchannel}
 use Rattle.chan_def.specs.declared.definition.ChanDef.{ChanDef}
+use Rattle.chan_def.specs.declared.definition.TheConstants.{MOST_SUBCHANNELS}
 use Rattle.chan_def.specs.declared.width.Width.{Width}
-use Rattle.chan_def.specs.declared.width.Width.TheVariants.{Noht, W20, W40, W80, W160}
+use Rattle.chan_def.specs.declared.width.Width.TheVariants.{Noht, W20, W40, W80, W160, W320}
 use Rattle.chan_flags.specs.Verdicts.{BarsFirst}
 
 -- P holds of the first n subchannels
@@ -26,12 +27,13 @@ EachBelow-more P c i s each is here t j below is_t = elim (cases_lt j i) [
       subst P (one_centre (width_khz c.width) c.centre_khz j s t (subst (λ n. IsSubchannel (width_khz c.width) c.centre_khz n s) same is) is_t) here
 ]
 
-few_subchannels : (w : Width) → width_khz w / 20000 ≤ 8
+few_subchannels : (w : Width) → width_khz w / 20000 ≤ MOST_SUBCHANNELS
 few_subchannels Noht = omega arith
 few_subchannels W20 = omega arith
 few_subchannels W40 = omega arith
 few_subchannels W80 = omega arith
 few_subchannels W160 = omega arith
+few_subchannels W320 = omega arith
 
 -- P holds of all subchannels where it holds of so many
 pub each_covered : (P : ℕ → Type 0) (c : ChanDef) (n : ℕ) → width_khz c.width / 20000 ≤ n → EachBelow P c n → (s : ℕ) → IsCovered c s → P s
@@ -39,8 +41,8 @@ each_covered P c n past each s covered =
     let within = covered.1.within in
     each s covered.0 (omega (arith, past, within)) covered.1
 
-pub each_covered_of_eight : (P : ℕ → Type 0) (c : ChanDef) (n : ℕ) → 8 ≤ n → EachBelow P c n → (s : ℕ) → IsCovered c s → P s
-each_covered_of_eight P c n all each =
+pub each_covered_of_most : (P : ℕ → Type 0) (c : ChanDef) (n : ℕ) → MOST_SUBCHANNELS ≤ n → EachBelow P c n → (s : ℕ) → IsCovered c s → P s
+each_covered_of_most P c n all each =
     let few = few_subchannels c.width in
     each_covered P c n (omega (arith, few, all)) each
 

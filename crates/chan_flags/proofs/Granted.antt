@@ -6,7 +6,7 @@ use Rattle.rule_tables.proofs.Governed.{governs_or_none}
 use Rattle.rule_tables.proofs.Widths.{some_width}
 use Rattle.chan_def.specs.Covered.{width_khz, IsCovered}
 use Rattle.chan_def.specs.declared.width.Width.{Width}
-use Rattle.chan_def.specs.declared.width.Width.TheVariants.{Noht, W20, W40, W80, W160}
+use Rattle.chan_def.specs.declared.width.Width.TheVariants.{Noht, W20, W40, W80, W160, W320}
 use Rattle.rule_intersect.specs.Subchannels.{SomeLacksRule}
 use Rattle.rule_intersect.specs.Tuples.{Choice}
 use Rattle.rule_intersect.proofs.OwnRows.{element_at}
@@ -46,6 +46,7 @@ least_width W20 = omega arith
 least_width W40 = omega arith
 least_width W80 = omega arith
 least_width W160 = omega arith
+least_width W320 = omega arith
 
 pub power_within : (setting : PowerSetting) (limit : ℕ) → IsWithinLimit setting limit → power_of setting limit ≤ limit
 power_within Auto limit within = omega arith

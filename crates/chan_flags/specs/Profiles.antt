@@ -38,7 +38,7 @@ abilities bands width radar power contexts self_managed deaf = record {
 
 -- the widths in MHz that a radio may have
 abbrev pub is_width : ℕ → Bool
-is_width mhz = mhz == 20 || mhz == 40 || mhz == 80 || mhz == 160
+is_width mhz = mhz == 20 || mhz == 40 || mhz == 80 || mhz == 160 || mhz == 320
 
 -- A radio has a band, a width of its own and one for channels that are checked for radar, or 0, and is on 1 to 8 channels at
 -- once. The last says that the power fits its field.

@@ -1,4 +1,4 @@
-//! What the rules allow on each channel of a radio, and whether they allow a channel of 20 to 160 MHz.
+//! What the rules allow on each channel of a radio, and whether they allow a channel of 20 to 320 MHz.
 #![tactic(auto)]
 
 mod asked;

@@ -63,15 +63,15 @@ impl Model for Profile {
 fn is_width(mhz: u16) -> bool
     ensures { result ≡ is_width mhz }
 {
-    mhz == 20 || mhz == 40 || mhz == 80 || mhz == 160
+    mhz == 20 || mhz == 40 || mhz == 80 || mhz == 160 || mhz == 320
 }
 
 impl Profile {
     /// A radio with these bands, its greatest width, its greatest width on a channel that is checked
     /// for radar (0 where it can't check), both in MHz, its greatest power in mBm, how many channels
     /// it can be on at once, whether it is self-managed, and whether it ignores country
-    /// elements. `None` exactly where there is no band, a width is none of 20, 40, 80 and 160, or it
-    /// can't be on 1 to 8 channels at once.
+    /// elements. `None` exactly where there is no band, a width is none of 20, 40, 80, 160 and 320, or
+    /// it can't be on 1 to 8 channels at once.
     pub fn new(
         bands: Bands,
         width_mhz: u16,

@@ -1,7 +1,8 @@
 -- What a book answers.
-use Rattle.std.proofs.Common.{◌≡◌, ℕ, zero, suc, ◌+◌, ◌≤◌, ◌<◌, List, [], ◌∷◌, ◌++◌, length, map, take, get_or, Contains, Option, Some, None, arith, refl, sym, ap, subst, ◌∙◌}
+use Rattle.std.proofs.Common.{◌≡◌, ℕ, zero, suc, ◌+◌, ◌≤◌, ◌<◌, List, [], ◌∷◌, ◌++◌, length, map, take, get_or, Contains, Bool, Option, Some, None, arith, refl, sym, ap, subst, ◌∙◌}
 use Rattle.std.proofs.lemmas.List.{length-map, map-append, get_or-map, get_or_default, take_more}
 use Rattle.std.proofs.lemmas.List.Elements.{All-push}
+use Rattle.chan_def.specs.declared.definition.ChanDef.{ChanDef}
 use Rattle.dfs_states.specs.Book.{Book}
 use Rattle.dfs_states.specs.Calls.{Call, Begin, moment_of}
 use Rattle.dfs_states.specs.Greatest.{IsMost}
@@ -23,18 +24,18 @@ quiet_means calls khz moment (Some most) now is over = λ until barred.
     omega arith
 
 -- the answer for a centre of the book
-pub answer_there : (book : Book) (channels : List ℕ) (calls : List Call) (khz : ℕ) (dfs : Dfs) (p : Place) → BookStandsFor book channels calls
-    → Contains book.places p → p.khz ≡ khz → (IsPlace calls p → IsBookState calls p.khz dfs) → IsBookAnswer channels calls khz dfs
-answer_there book channels calls khz dfs p stands has same means = record {
-  of_channel = λ listed. subst (λ k. IsBookState calls k dfs) same (means is);
+pub answer_there : (book : Book) (channels : List ℕ) (opening : Bool) (calls : List Call) (khz : ℕ) (dfs : Dfs) (p : Place) → BookStandsFor book channels opening calls
+    → Contains book.places p → p.khz ≡ khz → (IsPlace opening calls p → IsBookState opening calls p.khz dfs) → IsBookAnswer channels opening calls khz dfs
+answer_there book channels opening calls khz dfs p stands has same means = record {
+  of_channel = λ listed. subst (λ k. IsBookState opening calls k dfs) same (means is);
   of_other = λ unlisted. absurd (unlisted (subst (λ ks. Contains ks khz) stands.centres (subst (λ k. Contains (map centre book.places) k) same listed)));
 }
   where
     centre : Place → ℕ
     centre q = q.khz
 
-    is : IsPlace calls p
-    is = subst (IsPlace calls) has.2 (stands.places has.0 p has.1)
+    is : IsPlace opening calls p
+    is = subst (IsPlace opening calls) has.2 (stands.places has.0 p has.1)
 
     listed : Contains (map centre book.places) p.khz
     listed =
@@ -42,9 +43,9 @@ answer_there book channels calls khz dfs p stands has same means = record {
         (has.0, omega (arith, length-map book.places centre), get_or-map centre book.places has.0 p p.khz has.1 ∙ ap centre has.2)
 
 -- and for any other
-pub answer_none : (book : Book) (channels : List ℕ) (calls : List Call) (khz : ℕ) → BookStandsFor book channels calls
-    → ((p : Place) → Contains book.places p → p.khz ≡ khz → ⊥) → IsBookAnswer channels calls khz Usable
-answer_none book channels calls khz stands none = record {
+pub answer_none : (book : Book) (channels : List ℕ) (opening : Bool) (calls : List Call) (khz : ℕ) → BookStandsFor book channels opening calls
+    → ((p : Place) → Contains book.places p → p.khz ≡ khz → ⊥) → IsBookAnswer channels opening calls khz Usable
+answer_none book channels opening calls khz stands none = record {
   of_channel = λ listed. absurd (apart (subst (λ ks. Contains ks khz) (sym stands.centres) listed));
   of_other = λ unlisted. refl;
 }
@@ -53,7 +54,7 @@ answer_none book channels calls khz stands none = record {
     centre q = q.khz
 
     some_place : Place
-    some_place = record { khz = khz; until = None; since = None; counts = [] }
+    some_place = record { khz = khz; until = None; since = None; used = None; counts = [] }
 
     apart : Contains (map centre book.places) khz → ⊥
     apart listed =
@@ -69,32 +70,33 @@ running_means calls slot check is = (check.start, is)
 abbrev pub no_check : Option Check
 no_check = None
 
-abbrev slots : ℕ → List (Option Check)
+-- so many empty slots
+abbrev pub slots : {X : Type 0} → ℕ → List (Option X)
 slots zero = []
-slots (suc n) = no_check ∷ slots n
-
-abbrev pub eight : List (Option Check)
-eight = slots 8
+slots (suc n) = None ∷ slots n
 
 pub idle_means : (calls : List Call) (slot : ℕ) (check : Option Check) → check ≡ None → IsCheck calls slot check → IsRunning calls slot None
 idle_means calls slot check none is = subst (λ o. IsCheck calls slot o) none is
 
 -- one more channel, on which nothing has happened
-pub places_more : (channels : List ℕ) (places : List Place) (i d : ℕ) (p : Place) → i < length channels → p.khz ≡ get_or channels i d → IsPlace [] p
+pub places_more : (channels : List ℕ) (places : List Place) (i d : ℕ) (p : Place) → i < length channels → p.khz ≡ get_or channels i d → ((opening : Bool) → IsPlace opening [] p)
     → ArePlaces (take i channels) places → ArePlaces (take (i + 1) channels) (places ++ p ∷ [])
 places_more channels places i d p within same is are = record {
   centres = map-append (λ q. q.khz) places (p ∷ []) ∙ cc (are.centres, same, take_more channels i d within);
-  each = All-push (IsPlace []) places p are.each is;
+  each = λ opening. All-push (IsPlace opening []) places p (are.each opening) (is opening);
 }
 
-pub stands_opening : (channels : List ℕ) (places : List Place) (checks : List (Option Check)) → ArePlaces channels places
-    → ((slot : ℕ) → get_or checks slot None ≡ None) → BookStandsFor (record { moment = 0; checks = checks; places = places }) channels []
-stands_opening channels places checks are empty = record {
+pub stands_opening : (channels : List ℕ) (places : List Place) (lasts : Bool) (checks : List (Option Check)) (operations : List (Option ChanDef))
+    → ArePlaces channels places → ((slot : ℕ) → get_or checks slot None ≡ None) → ((slot : ℕ) → get_or operations slot None ≡ None)
+    → BookStandsFor (record { moment = 0; lasts = lasts; checks = checks; operations = operations; places = places }) channels lasts []
+stands_opening channels places lasts checks operations are empty unset = record {
   due = tt;
   moment = refl;
+  lasts = refl;
   centres = are.centres;
   checks = λ slot. subst (λ o. IsCheck [] slot o) (sym (empty slot)) (idle slot);
-  places = are.each;
+  operations = unset;
+  places = are.each lasts;
 }
   where
     nothing : (newer : List Call) (call : Call) (older : List Call) → [] ≡ newer ++ call ∷ older → ⊥
@@ -104,11 +106,8 @@ stands_opening channels places checks are empty = record {
     idle : (slot : ℕ) → IsFreeSlot [] slot
     idle slot = λ busy. nothing busy.runs.newer (Begin slot busy.chan busy.runs.length) busy.runs.older busy.runs.begun
 
--- eight empty slots
-pub empty_at : (slot : ℕ) → get_or eight slot no_check ≡ no_check
-empty_at = grown 8
-  where
-    grown : (n : ℕ) (slot : ℕ) → get_or (slots n) slot no_check ≡ no_check
-    grown zero slot = refl
-    grown (suc n) zero = refl
-    grown (suc n) (suc slot) = grown n slot
+-- each of them is empty
+pub empty_at : {X : Type 0} (n slot : ℕ) → get_or (slots {X = X} n) slot None ≡ None
+empty_at zero slot = refl
+empty_at (suc n) zero = refl
+empty_at {X} (suc n) (suc slot) = empty_at {X = X} n slot

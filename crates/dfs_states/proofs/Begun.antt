@@ -13,10 +13,11 @@ use Rattle.dfs_states.proofs.Most.{most_same}
 use Rattle.dfs_states.proofs.Places.{Tells, tells_still, place_kept}
 use Rattle.dfs_states.proofs.Radar.{barred_older, barred_earlier}
 use Rattle.dfs_states.proofs.Running.{same_begin, runs_begun, runs_dropped, counting_runs}
-use Rattle.dfs_states.proofs.Standing.{stands_counts, stands_at_once}
+use Rattle.dfs_states.proofs.Lapses.{use_kept, lapsed_past}
+use Rattle.dfs_states.proofs.Standing.{ended_counts, ended_at_once}
 
 harmless_begin : (slot : ℕ) (chan : ChanDef) (n khz other : ℕ) → IsHarmless (Begin slot chan n) khz other
-harmless_begin slot chan n khz other = record { no_drop = λ same. cc; no_radar = λ c same covered. cc; same_region = λ same. cc }
+harmless_begin slot chan n khz other = record { no_drop = λ same. cc; no_radar = λ c same covered. cc; same_region = λ l same. cc }
 
 -- the flags of the other slots stay, and that of this one is told
 tells_set : (slot : ℕ) (chan : ChanDef) (n : ℕ) (calls : List Call) (khz : ℕ) (flags : List Bool) (flag : Bool) → slot < length flags
@@ -41,10 +42,10 @@ idle_counts calls khz slot end due idle below counts =
     idle (record { chan = runs.0; start = runs.1; end = end; runs = runs.2 })
 
 -- a check begins on another channel
-pub place_begun_apart : (slot : ℕ) (chan : ChanDef) (n : ℕ) (calls : List Call) (p : Place) → slot < length p.counts → EachMayBeCalled (Begin slot chan n ∷ calls)
-    → (IsCovered chan p.khz → ⊥) → IsPlace calls p → IsPlace (Begin slot chan n ∷ calls) (record p { counts = set p.counts slot false })
-place_begun_apart slot chan n calls p within due apart is =
-    place_kept (Begin slot chan n) calls p (set p.counts slot false) refl (λ c same covered. cc)
+pub place_begun_apart : (opening : Bool) (slot : ℕ) (chan : ChanDef) (n : ℕ) (calls : List Call) (p : Place) → slot < length p.counts → EachMayBeCalled (Begin slot chan n ∷ calls)
+    → (IsCovered chan p.khz → ⊥) → IsPlace opening calls p → IsPlace opening (Begin slot chan n ∷ calls) (record p { counts = set p.counts slot false })
+place_begun_apart opening slot chan n calls p within due apart is =
+    place_kept opening (Begin slot chan n) calls p (set p.counts slot false) (λ other o same. cc) (λ l same. cc) due refl (λ c same covered. cc)
     (λ other end done. counts_harmless (Begin slot chan n) calls p.khz other end (harmless_begin slot chan n p.khz other))
     (λ other end done. counts_earlier (Begin slot chan n) calls p.khz other end (elsewhere other))
     (tells_set slot chan n calls p.khz p.counts false within due here is.counting) is
@@ -63,10 +64,10 @@ place_begun_apart slot chan n calls p within due apart is =
         )
 
 -- a check begins on this channel
-pub place_begun : (slot : ℕ) (chan : ChanDef) (n : ℕ) (calls : List Call) (p : Place) → slot < length p.counts → EachMayBeCalled (Begin slot chan n ∷ calls)
-    → IsCovered chan p.khz → 0 < n → IsPlace calls p → IsPlace (Begin slot chan n ∷ calls) (record p { counts = set p.counts slot true })
-place_begun slot chan n calls p within due covered some is =
-    place_kept (Begin slot chan n) calls p (set p.counts slot true) refl (λ c same covered'. cc)
+pub place_begun : (opening : Bool) (slot : ℕ) (chan : ChanDef) (n : ℕ) (calls : List Call) (p : Place) → slot < length p.counts → EachMayBeCalled (Begin slot chan n ∷ calls)
+    → IsCovered chan p.khz → 0 < n → IsPlace opening calls p → IsPlace opening (Begin slot chan n ∷ calls) (record p { counts = set p.counts slot true })
+place_begun opening slot chan n calls p within due covered some is =
+    place_kept opening (Begin slot chan n) calls p (set p.counts slot true) (λ other o same. cc) (λ l same. cc) due refl (λ c same covered'. cc)
     (λ other end done. counts_harmless (Begin slot chan n) calls p.khz other end (harmless_begin slot chan n p.khz other))
     before (tells_set slot chan n calls p.khz p.counts true within due here is.counting) is
   where
@@ -87,15 +88,19 @@ place_begun slot chan n calls p within due covered some is =
         let ends = begun.2 in
         (λ set. counts_begun calls p.khz slot chan n end covered (omega arith), λ counts. refl)
 
-at_once : (slot : ℕ) (chan : ChanDef) (calls : List Call) (p : Place) → EachMayBeCalled (Begin slot chan 0 ∷ calls) → IsCovered chan p.khz
-    → IsPlace calls p → IsPlace (Begin slot chan 0 ∷ calls) (record p { since = Some (moment_of calls) })
-at_once slot chan calls p due covered is = record {
+at_once : (opening : Bool) (slot : ℕ) (chan : ChanDef) (calls : List Call) (p : Place) → EachMayBeCalled (Begin slot chan 0 ∷ calls) → IsCovered chan p.khz
+    → IsPlace opening calls p → IsPlace opening (Begin slot chan 0 ∷ calls) (record p { since = Some (moment_of calls) })
+at_once opening slot chan calls p due covered is = record {
   until = most_same (HasNonoccupancy calls p.khz) (HasNonoccupancy (Begin slot chan 0 ∷ calls) p.khz) p.until
       (barred_older (Begin slot chan 0) calls p.khz) (barred_earlier (Begin slot chan 0) calls p.khz (λ c same covered'. cc)) is.until;
   since = record {
-    holds = stands_at_once calls p.khz slot chan covered;
-    none_above = λ end stands. (stands_counts (Begin slot chan 0 ∷ calls) p.khz end stands).2;
+    latest = record {
+      holds = ended_at_once calls p.khz slot chan covered;
+      none_above = λ end ended. (ended_counts (Begin slot chan 0 ∷ calls) p.khz end ended).2;
+    };
+    lapse = λ lapses lapsed. let past = lapsed_past (Begin slot chan 0 ∷ calls) p.khz (moment_of calls) due lapsed in absurd (omega arith);
   };
+  used = use_kept (Begin slot chan 0) calls p.khz p.used (λ other o same. cc) is.used;
   counting = told;
 }
   where
@@ -114,23 +119,23 @@ at_once slot chan calls p due covered is = record {
     ]
 
 -- a check of length 0 begins on this channel, and is done
-pub place_at_once : (slot : ℕ) (chan : ChanDef) (n moment : ℕ) (calls : List Call) (p : Place) → n ≡ 0 → moment_of calls ≡ moment
-    → EachMayBeCalled (Begin slot chan n ∷ calls) → IsCovered chan p.khz → IsPlace calls p → IsPlace (Begin slot chan n ∷ calls) (record p { since = Some moment })
-place_at_once slot chan n moment calls p none now due covered is =
-    subst (λ m. IsPlace (Begin slot chan n ∷ calls) (record p { since = Some m })) now
-    (subst (λ l. EachMayBeCalled (Begin slot chan l ∷ calls) → IsPlace (Begin slot chan l ∷ calls) (record p { since = Some (moment_of calls) })) (sym none)
-    (λ due'. at_once slot chan calls p due' covered is) due)
+pub place_at_once : (opening : Bool) (slot : ℕ) (chan : ChanDef) (n moment : ℕ) (calls : List Call) (p : Place) → n ≡ 0 → moment_of calls ≡ moment
+    → EachMayBeCalled (Begin slot chan n ∷ calls) → IsCovered chan p.khz → IsPlace opening calls p → IsPlace opening (Begin slot chan n ∷ calls) (record p { since = Some moment })
+place_at_once opening slot chan n moment calls p none now due covered is =
+    subst (λ m. IsPlace opening (Begin slot chan n ∷ calls) (record p { since = Some m })) now
+    (subst (λ l. EachMayBeCalled (Begin slot chan l ∷ calls) → IsPlace opening (Begin slot chan l ∷ calls) (record p { since = Some (moment_of calls) })) (sym none)
+    (λ due'. at_once opening slot chan calls p due' covered is) due)
 
 -- the slot's check is dropped: those that stand for the channel still do, and what runs elsewhere runs on
-pub place_dropped : (slot : ℕ) (calls : List Call) (p : Place) → EachMayBeCalled (DropCheck slot ∷ calls) → IsPlace calls p → IsPlace (DropCheck slot ∷ calls) p
-place_dropped slot calls p due is =
-    place_kept (DropCheck slot) calls p p.counts refl (λ c same covered. cc) outlasts
+pub place_dropped : (opening : Bool) (slot : ℕ) (calls : List Call) (p : Place) → EachMayBeCalled (DropCheck slot ∷ calls) → IsPlace opening calls p → IsPlace opening (DropCheck slot ∷ calls) p
+place_dropped opening slot calls p due is =
+    place_kept opening (DropCheck slot) calls p p.counts (λ other o same. cc) (λ l same. cc) due refl (λ c same covered. cc) outlasts
     (λ other end done. counts_earlier (DropCheck slot) calls p.khz other end (λ c n same covered. cc)) told is
   where
     outlasts : (other end : ℕ) → end ≤ moment_of calls → CheckCounts calls p.khz other end → CheckCounts (DropCheck slot ∷ calls) p.khz other end
     outlasts other end done counts =
         counts_outlasting (DropCheck slot) calls p.khz other end
-        (outlasts_drop (DropCheck slot) calls p.khz other end counts begun (λ c same covered. cc) (λ same. cc))
+        (outlasts_drop (DropCheck slot) calls p.khz other end counts begun (λ c same covered. cc) (λ l same. cc))
       where
         begun : DropCheck slot ≡ DropCheck other → HasBegin counts.newer other
         begun same =
@@ -154,5 +159,5 @@ place_dropped slot calls p due is =
       | inl same ↦ λ c start end runs. absurd (runs_dropped calls slot c start end (subst (λ j. Runs (DropCheck slot ∷ calls) j c start end) same runs))
       | inr apart ↦
           tells_still (DropCheck slot) calls p.khz other (get_or p.counts other false) due (λ c n same. cc)
-          (record { no_drop = λ same. let slots : slot ≡ other = cc in apart (sym slots); no_radar = λ c same covered. cc; same_region = λ same. cc }) (is.counting other)
+          (record { no_drop = λ same. let slots : slot ≡ other = cc in apart (sym slots); no_radar = λ c same covered. cc; same_region = λ l same. cc }) (is.counting other)
     ]

@@ -1,5 +1,5 @@
 -- A check that counts for a subchannel, after one more call.
-use Rattle.std.proofs.Common.{◌≡◌, ℕ, ◌+◌, List, [], ◌∷◌, ◌++◌, refl, sym, ap, subst, ◌∙◌, ◌⊎◌, inl, inr}
+use Rattle.std.proofs.Common.{◌≡◌, ℕ, ◌+◌, Bool, List, [], ◌∷◌, ◌++◌, refl, sym, ap, subst, ◌∙◌, ◌⊎◌, inl, inr}
 use Rattle.chan_def.specs.Covered.{IsCovered}
 use Rattle.chan_def.specs.declared.definition.ChanDef.{ChanDef}
 use Rattle.dfs_states.specs.Calls.{Call, Radar, Begin, DropCheck, RegionChanged, moment_of, HasBegin}
@@ -10,7 +10,7 @@ use Rattle.dfs_states.proofs.Splits.{split_cons, split_more, has_newest, has_old
 pub record IsHarmless (f : Call) (khz slot : ℕ) : Type 0 where
   pub no_drop : f ≡ DropCheck slot → ⊥
   pub no_radar : (chan : ChanDef) → f ≡ Radar chan → IsCovered chan khz → ⊥
-  pub same_region : f ≡ RegionChanged → ⊥
+  pub same_region : (lasts : Bool) → f ≡ RegionChanged lasts → ⊥
 
 -- the newest call is the beginning of the check
 pub record Opens (f : Call) (calls : List Call) (khz slot end : ℕ) : Type 0 where
@@ -35,28 +35,28 @@ pub spares_older : (f : Call) (newer : List Call) (khz slot : ℕ) → Spares (f
 spares_older f newer khz slot spared = record {
   kept = kept_older f newer slot spared.kept;
   no_radar = λ has. spared.no_radar (radar_older f newer khz has);
-  same_region = λ has. spared.same_region (has_older f RegionChanged newer has);
+  same_region = λ lasts has. spared.same_region lasts (has_older f (RegionChanged lasts) newer has);
 }
 
 pub spares_none : (khz slot : ℕ) → Spares [] khz slot
 spares_none khz slot = record {
   kept = λ newer between at. absurd (none_has (DropCheck slot) (record { newer = newer; older = between; at = at }));
   no_radar = λ has. none_has (Radar has.chan) has.met;
-  same_region = λ has. none_has RegionChanged has;
+  same_region = λ lasts has. none_has (RegionChanged lasts) has;
 }
 
 -- a drop spares a check where another has begun in the slot since
 spares_more : (f : Call) (newer : List Call) (khz slot : ℕ) → (f ≡ DropCheck slot → HasBegin newer slot)
-    → ((chan : ChanDef) → f ≡ Radar chan → IsCovered chan khz → ⊥) → (f ≡ RegionChanged → ⊥) → Spares newer khz slot → Spares (f ∷ newer) khz slot
+    → ((chan : ChanDef) → f ≡ Radar chan → IsCovered chan khz → ⊥) → ((lasts : Bool) → f ≡ RegionChanged lasts → ⊥) → Spares newer khz slot → Spares (f ∷ newer) khz slot
 spares_more f newer khz slot drop radar region spared = record {
   kept = kept_more f newer slot drop spared.kept;
   no_radar = λ has. elim (radar_cases f newer khz has) [
     | inl newest ↦ radar newest.0 newest.1 newest.2
     | inr older ↦ spared.no_radar older
   ];
-  same_region = λ has. elim (has_cases f RegionChanged newer has) [
-    | inl newest ↦ region newest
-    | inr older ↦ spared.same_region older
+  same_region = λ lasts has. elim (has_cases f (RegionChanged lasts) newer has) [
+    | inl newest ↦ region lasts newest
+    | inr older ↦ spared.same_region lasts older
   ];
 }
 
@@ -121,7 +121,7 @@ counts_begun calls khz slot chan length end covered ends = record {
 
 -- a check that counted outlasts a drop of the slot, where another has begun there since
 pub outlasts_drop : (f : Call) (calls : List Call) (khz slot end : ℕ) (counts : CheckCounts calls khz slot end) → (f ≡ DropCheck slot → HasBegin counts.newer slot)
-    → ((chan : ChanDef) → f ≡ Radar chan → IsCovered chan khz → ⊥) → (f ≡ RegionChanged → ⊥) → Outlasts f calls khz slot end
+    → ((chan : ChanDef) → f ≡ Radar chan → IsCovered chan khz → ⊥) → ((lasts : Bool) → f ≡ RegionChanged lasts → ⊥) → Outlasts f calls khz slot end
 outlasts_drop f calls khz slot end counts drop radar region = record {
   newer = counts.newer;
   chan = counts.chan;
@@ -154,8 +154,8 @@ counts_no_radar chan calls khz slot end covered counts = elim (counts_cases (Rad
 ]
 
 -- a change of the region leaves none either
-pub counts_no_region : (calls : List Call) (khz slot end : ℕ) → CheckCounts (RegionChanged ∷ calls) khz slot end → ⊥
-counts_no_region calls khz slot end counts = elim (counts_cases RegionChanged calls khz slot end counts) [
-  | inl opens ↦ let begins : RegionChanged ≡ Begin slot opens.chan opens.length = opens.begins in cc
-  | inr lasts ↦ lasts.spared.same_region (has_newest RegionChanged lasts.newer)
+pub counts_no_region : (region : Bool) (calls : List Call) (khz slot end : ℕ) → CheckCounts (RegionChanged region ∷ calls) khz slot end → ⊥
+counts_no_region region calls khz slot end counts = elim (counts_cases (RegionChanged region) calls khz slot end counts) [
+  | inl opens ↦ let begins : RegionChanged region ≡ Begin slot opens.chan opens.length = opens.begins in cc
+  | inr lasts ↦ lasts.spared.same_region region (has_newest (RegionChanged region) lasts.newer)
 ]

@@ -1,5 +1,5 @@
 -- A list of calls leaves one answer.
-use Rattle.std.proofs.Common.{◌≡◌, ℕ, zero, suc, ◌<◌, List, [], ◌∷◌, length, get_or, Contains, Option, Some, None, arith, refl, sym, ap, ◌∙◌, ◌⊎◌, inl, inr}
+use Rattle.std.proofs.Common.{◌≡◌, ℕ, zero, suc, ◌<◌, List, [], ◌∷◌, length, get_or, Contains, Bool, Option, Some, None, arith, refl, sym, ap, ◌∙◌, ◌⊎◌, inl, inr}
 use Rattle.std.proofs.lemmas.Bool.{cases_eq}
 use Rattle.chan_def.specs.declared.definition.ChanDef.{ChanDef}
 use Rattle.dfs_states.specs.Calls.{Call, moment_of}
@@ -16,16 +16,16 @@ not_quiet calls khz until is above quiet =
     let past = quiet until is.holds in
     absurd (omega arith)
 
-one_state : (calls : List Call) (khz : ℕ) (one other : Dfs) → IsBookState calls khz one → IsBookState calls khz other → one ≡ other
-one_state calls khz Usable Usable is is' = refl
-one_state calls khz Usable (Unavailable until) is is' = absurd (not_quiet calls khz until is'.0 is'.1 is.0)
-one_state calls khz Usable (Available since) is is' = absurd (is.1 since is'.1.holds)
-one_state calls khz (Unavailable until) Usable is is' = absurd (not_quiet calls khz until is.0 is.1 is'.0)
-one_state calls khz (Unavailable until) (Unavailable until') is is' = ap (λ n. Unavailable n) (greatest_same (HasNonoccupancy calls khz) until until' is.0 is'.0)
-one_state calls khz (Unavailable until) (Available since) is is' = absurd (not_quiet calls khz until is.0 is.1 is'.0)
-one_state calls khz (Available since) Usable is is' = absurd (is'.1 since is.1.holds)
-one_state calls khz (Available since) (Unavailable until) is is' = absurd (not_quiet calls khz until is'.0 is'.1 is.0)
-one_state calls khz (Available since) (Available since') is is' = ap (λ n. Available n) (greatest_same (CheckStands calls khz) since since' is.1 is'.1)
+one_state : (opening : Bool) (calls : List Call) (khz : ℕ) (one other : Dfs) → IsBookState opening calls khz one → IsBookState opening calls khz other → one ≡ other
+one_state opening calls khz Usable Usable is is' = refl
+one_state opening calls khz Usable (Unavailable until) is is' = absurd (not_quiet calls khz until is'.0 is'.1 is.0)
+one_state opening calls khz Usable (Available since) is is' = absurd (is.1 since is'.1.holds)
+one_state opening calls khz (Unavailable until) Usable is is' = absurd (not_quiet calls khz until is.0 is.1 is'.0)
+one_state opening calls khz (Unavailable until) (Unavailable until') is is' = ap (λ n. Unavailable n) (greatest_same (HasNonoccupancy calls khz) until until' is.0 is'.0)
+one_state opening calls khz (Unavailable until) (Available since) is is' = absurd (not_quiet calls khz until is.0 is.1 is'.0)
+one_state opening calls khz (Available since) Usable is is' = absurd (is'.1 since is.1.holds)
+one_state opening calls khz (Available since) (Unavailable until) is is' = absurd (not_quiet calls khz until is'.0 is'.1 is.0)
+one_state opening calls khz (Available since) (Available since') is is' = ap (λ n. Available n) (greatest_same (CheckStands opening calls khz) since since' is.1 is'.1)
 
 listed_or_not : (channels : List ℕ) (khz : ℕ) → Contains channels khz ⊎ (Contains channels khz → ⊥)
 listed_or_not [] khz = inr (λ has. let below = has.1 in absurd (omega arith))
@@ -41,10 +41,10 @@ listed_or_not (x ∷ channels) khz = elim (cases_eq x khz) [
     unlisted apart none zero below same = apart same
     unlisted apart none (suc k) below same = none (k, omega arith, same)
 
-pub state_determined : (channels : List ℕ) (calls : List Call) (khz : ℕ) (one other : Dfs) → IsBookAnswer channels calls khz one → IsBookAnswer channels calls khz other
+pub state_determined : (channels : List ℕ) (opening : Bool) (calls : List Call) (khz : ℕ) (one other : Dfs) → IsBookAnswer channels opening calls khz one → IsBookAnswer channels opening calls khz other
     → one ≡ other
-state_determined channels calls khz one other is is' = elim (listed_or_not channels khz) [
-  | inl listed ↦ one_state calls khz one other (is.of_channel listed) (is'.of_channel listed)
+state_determined channels opening calls khz one other is is' = elim (listed_or_not channels khz) [
+  | inl listed ↦ one_state opening calls khz one other (is.of_channel listed) (is'.of_channel listed)
   | inr unlisted ↦ is.of_other unlisted ∙ sym (is'.of_other unlisted)
 ]
 

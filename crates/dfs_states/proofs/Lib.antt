@@ -5,11 +5,13 @@ pub mod Checks
 pub mod Determined
 pub mod Each
 pub mod Ended
+pub mod Lapses
 pub mod Later
 pub mod Most
 pub mod Places
 pub mod Radar
 pub mod Running
+pub mod Since
 pub mod Slots
 pub mod Splits
 pub mod Standing

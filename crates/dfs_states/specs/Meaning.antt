@@ -1,12 +1,12 @@
 -- What a list of calls says: the checks (CAC, channel availability check) that stand for a subchannel, those that run, and
 -- the nonoccupancy (NOP, non-occupancy period) after radar.
 -- Subchannels are named by their centres in kHz, moments are in ms.
-use Rattle.std.specs.Prelude.{◌≡◌, ℕ, ◌+◌, ◌<◌, ◌≤◌, List, [], ◌∷◌, ◌++◌, Contains, Option, Some, None}
+use Rattle.std.specs.Prelude.{◌≡◌, ℕ, ◌+◌, ◌<◌, ◌≤◌, ◌⊎◌, List, [], ◌∷◌, ◌++◌, Contains, Bool, true, Option, Some, None, IfSome, IsSomeAnd}
 use Rattle.chan_def.specs.Covered.{IsCovered, IsValidDef}
 use Rattle.chan_def.specs.declared.definition.ChanDef.{ChanDef}
-use Rattle.dfs_states.specs.Calls.{Call, Advance, Radar, Begin, DropCheck, RegionChanged, moment_of, HasCall, HasBegin, HasRadarCall, IsUndropped}
+use Rattle.dfs_states.specs.Calls.{Call, Advance, Radar, Begin, DropCheck, Operate, RegionChanged, moment_of, operation_of, lasts_of, HasCall, HasBegin, HasRadarCall, IsUndropped}
 use Rattle.dfs_states.specs.Greatest.{IsGreatest}
-use Rattle.dfs_states.specs.declared.moments.TheConstants.{LAST_MOMENT_MS, NONOCCUPANCY_MS}
+use Rattle.dfs_states.specs.declared.moments.TheConstants.{LAST_MOMENT_MS, NONOCCUPANCY_MS, UNUSED_CHECK_MS}
 use Rattle.dfs_states.specs.declared.dfs.Dfs.{Dfs}
 use Rattle.dfs_states.specs.declared.dfs.Dfs.TheVariants.{Usable, Unavailable, Available}
 
@@ -28,7 +28,7 @@ IsPastNonoccupancy calls khz = (until : ℕ) → HasNonoccupancy calls khz until
 pub record Spares (newer : List Call) (khz slot : ℕ) : Type 0 where
   pub kept : IsUndropped newer slot
   pub no_radar : HasRadarCall newer khz → ⊥
-  pub same_region : HasCall newer RegionChanged → ⊥
+  pub same_region : (lasts : Bool) → HasCall newer (RegionChanged lasts) → ⊥
 
 -- a check that began in the slot, and that ends at this moment, counts for the subchannel: it covers it, and all that came
 -- after its beginning spares it
@@ -42,11 +42,48 @@ pub record CheckCounts (calls : List Call) (khz slot end : ℕ) : Type 0 where
   pub ends : end ≡ moment_of older + length
   pub spared : Spares newer khz slot
 
--- a check that ended at this moment stands for the subchannel: it counts, and it is done
-pub record CheckStands (calls : List Call) (khz end : ℕ) : Type 0 where
+-- a check that counts for the subchannel ended at this moment, which isn't to come
+pub record CheckEnded (calls : List Call) (khz end : ℕ) : Type 0 where
   pub slot : ℕ
   pub counts : CheckCounts calls khz slot end
   pub done : end ≤ moment_of calls
+
+-- the operation of some slot covers the subchannel
+pub record HasOperation (calls : List Call) (khz : ℕ) : Type 0 where
+  pub slot : ℕ
+  pub covers : IsSomeAnd (operation_of calls slot) (λ chan. IsCovered chan khz)
+
+-- an operation covered the subchannel at this moment: after all the calls, or after the oldest ones
+pub record OperatedAt (calls : List Call) (khz moment : ℕ) : Type 0 where
+  pub newer : List Call
+  pub older : List Call
+  pub at : calls ≡ newer ++ older
+  pub used : HasOperation older khz
+  pub when : moment ≡ moment_of older
+
+-- a check ended at this moment, or an operation covered the subchannel at it
+abbrev pub IsEndOrUse : List Call → ℕ → ℕ → ℕ → Type 0
+IsEndOrUse calls khz end moment = (moment ≡ end) ⊎ OperatedAt calls khz moment
+
+-- A check that ended at this moment has lapsed: at some time, 2,000 ms had passed since its end and since the last operation on
+-- the subchannel up to then.
+pub record CheckLapsed (calls : List Call) (khz end : ℕ) : Type 0 where
+  pub newer : List Call
+  pub older : List Call
+  pub at : calls ≡ newer ++ older
+  pub last : ℕ
+  pub is_last : IsGreatest (IsEndOrUse older khz end) last
+  pub long_ago : last + UNUSED_CHECK_MS ≤ moment_of older
+
+-- a check that ended at this moment stands for the subchannel: it counts, it is done, and checks last in the region, or it
+-- hasn't lapsed
+pub record CheckStands (opening : Bool) (calls : List Call) (khz end : ℕ) : Type 0 where
+  pub ended : CheckEnded calls khz end
+  pub alive : (lasts_of opening calls ≡ true) ⊎ (CheckLapsed calls khz end → ⊥)
+
+-- no check stands for the subchannel
+abbrev pub NoCheckStands : Bool → List Call → ℕ → Type 0
+NoCheckStands opening calls khz = (end : ℕ) → CheckStands opening calls khz end → ⊥
 
 -- the check that runs in the slot: the last one that began there, not dropped, and not done
 pub record Runs (calls : List Call) (slot : ℕ) (chan : ChanDef) (start end : ℕ) : Type 0 where
@@ -78,7 +115,8 @@ MayBeCalled calls (Advance moment) = (moment_of calls ≤ moment) × (moment ≤
 MayBeCalled calls (Radar chan) = IsValidDef chan
 MayBeCalled calls (Begin slot chan length) = IsValidDef chan × IsFreeSlot calls slot
 MayBeCalled calls (DropCheck slot) = IsBusy calls slot
-MayBeCalled calls RegionChanged = Unit {0}
+MayBeCalled calls (Operate slot chan) = IfSome chan IsValidDef
+MayBeCalled calls (RegionChanged lasts) = Unit {0}
 
 -- each call came where it might
 abbrev pub EachMayBeCalled : List Call → Type 0
@@ -86,14 +124,14 @@ EachMayBeCalled [] = Unit {0}
 EachMayBeCalled (call ∷ calls) = MayBeCalled calls call × EachMayBeCalled calls
 
 -- the state of a subchannel
-abbrev pub IsBookState : List Call → ℕ → Dfs → Type 0
-IsBookState calls khz (Unavailable until) = IsGreatest (HasNonoccupancy calls khz) until × (moment_of calls < until)
-IsBookState calls khz (Available since) = IsPastNonoccupancy calls khz × IsGreatest (CheckStands calls khz) since
-IsBookState calls khz Usable = IsPastNonoccupancy calls khz × ((end : ℕ) → CheckStands calls khz end → ⊥)
+abbrev pub IsBookState : Bool → List Call → ℕ → Dfs → Type 0
+IsBookState opening calls khz (Unavailable until) = IsGreatest (HasNonoccupancy calls khz) until × (moment_of calls < until)
+IsBookState opening calls khz (Available since) = IsPastNonoccupancy calls khz × IsGreatest (CheckStands opening calls khz) since
+IsBookState opening calls khz Usable = IsPastNonoccupancy calls khz × NoCheckStands opening calls khz
 
 -- the answer for a centre: the state of a channel of the book, and usable for any other centre
-pub record IsBookAnswer (channels : List ℕ) (calls : List Call) (khz : ℕ) (dfs : Dfs) : Type 0 where
-  pub of_channel : Contains channels khz → IsBookState calls khz dfs
+pub record IsBookAnswer (channels : List ℕ) (opening : Bool) (calls : List Call) (khz : ℕ) (dfs : Dfs) : Type 0 where
+  pub of_channel : Contains channels khz → IsBookState opening calls khz dfs
   pub of_other : (Contains channels khz → ⊥) → dfs ≡ Usable
 
 -- the check that runs in the slot, as its channel and its end, or that none runs
@@ -104,9 +142,9 @@ IsRunning calls slot (Some check) = (start : ℕ) × Runs calls slot check.0 sta
 -- the call is a moment or a change of the region
 abbrev pub IsBlank : Call → Type 0
 IsBlank (Advance moment) = Unit {0}
-IsBlank RegionChanged = Unit {0}
+IsBlank (RegionChanged lasts) = Unit {0}
 IsBlank call = ⊥
 
--- no radar, no begin and no drop came
+-- no radar, no begin, no drop and no operation came
 abbrev pub AreBlank : List Call → Type 0
 AreBlank calls = (call : Call) → HasCall calls call → IsBlank call

@@ -1,7 +1,8 @@
 //! The book.
 
-ghost use Rattle.std.specs.Prelude.{◌≡◌, ℕ, List, [], ◌∷◌, ◌≤◌, IfOk};
-ghost use Rattle.dfs_states.specs.Calls.{Call, Advance, Radar, Begin, DropCheck, RegionChanged};
+ghost use Rattle.std.specs.Prelude.{◌≡◌, ℕ, List, [], ◌∷◌, ◌≤◌, Bool, IfOk};
+ghost use Rattle.std.specs.Option.{option_copied};
+ghost use Rattle.dfs_states.specs.Calls.{Call, Advance, Radar, Begin, DropCheck, Operate, RegionChanged};
 ghost use Rattle.dfs_states.specs.Meaning.{MayBeCalled, IsFreeSlot, IsBookAnswer, IsRunning};
 ghost use Rattle.dfs_states.specs.StandsFor.{BookStandsFor};
 ghost use Rattle.dfs_states.specs.inner.Steps.{ArePlaces};
@@ -9,7 +10,9 @@ ghost use Rattle.dfs_states.specs.inner.Steps.{ArePlaces};
 use crate::check::{Check, clear_done, some_is_done};
 use crate::dfs::Dfs;
 use crate::moments::LAST_MOMENT_MS;
-use crate::place::{Place, advance_each, begin_check, change_region, meet_radar, place_of};
+use crate::place::{
+    Place, advance_each, begin_check, change_region, meet_radar, place_of, settle_each,
+};
 use crate::slot::IfSlot;
 use chan_def::{ChanDef, MOST_IFACES};
 use reg_lists::OutOfMemory;
@@ -21,7 +24,10 @@ use std::marker::Model;
 #[derive(Debug, Drop)]
 pub struct DfsBook {
     moment: u64,
+    /// Whether checks last in the region: it is that of ETSI.
+    lasts: bool,
     checks: [Option<Check>; MOST_IFACES],
+    operations: [Option<ChanDef>; MOST_IFACES],
     places: Vec<Place>,
 }
 
@@ -32,19 +38,28 @@ impl Model for DfsBook {
 
     ghost Value = { Book };
 
-    ghost view = { λ b. record { moment = b.moment; checks = b.checks; places = b.places.items } };
+    ghost view = { λ b. record {
+      moment = b.moment;
+      lasts = b.lasts;
+      checks = b.checks;
+      operations = b.operations;
+      places = b.places.items;
+    } };
 
     ghost invariant = { λ b. b.moment ≤ LAST_MOMENT_MS };
 }
 
 impl DfsBook {
-    /// The book of the channels of these centres, in kHz, at moment 0. All are usable.
-    pub fn new(alloc: Global, channels: &[u32]) -> Result<DfsBook, OutOfMemory>
-        ensures opening { IfOk result (λ book. BookStandsFor book channels.now []) }
+    /// The book of the channels of these centres, in kHz, at moment 0, of a radio in a region where checks
+    /// last, as in that of ETSI, or lapse. All are usable.
+    pub fn new(alloc: Global, channels: &[u32], lasts: bool) -> Result<DfsBook, OutOfMemory>
+        ensures opening { IfOk result (λ book. BookStandsFor book channels.now lasts []) }
     {
         Ok(DfsBook {
             moment: 0,
+            lasts,
             checks: [None; MOST_IFACES],
+            operations: [None; MOST_IFACES],
             places: unused_places(alloc, channels)?,
         })
     }
@@ -53,8 +68,8 @@ impl DfsBook {
     /// (`cfg80211_cac_event`).
     pub fn advance(&mut self, now: u64)
         requires { now ≤ LAST_MOMENT_MS }
-        ensures stands_for { (channels : List ℕ) (calls : List Call) → BookStandsFor self.old channels calls
-            → MayBeCalled calls (Advance now) → BookStandsFor self.new channels (Advance now ∷ calls) }
+        ensures stands_for { (channels : List ℕ) (opening : Bool) (calls : List Call) → BookStandsFor self.old channels opening calls
+            → MayBeCalled calls (Advance now) → BookStandsFor self.new channels opening (Advance now ∷ calls) }
     {
         if !some_is_done(now, &self.checks) {
             self.moment = now;
@@ -67,8 +82,8 @@ impl DfsBook {
 
     /// There is radar on the channel, at the present moment (`cfg80211_radar_event`).
     pub fn radar(&mut self, c: &ChanDef)
-        ensures stands_for { (channels : List ℕ) (calls : List Call) → BookStandsFor self.old channels calls
-            → MayBeCalled calls (Radar c.now) → BookStandsFor self.new channels (Radar c.now ∷ calls) }
+        ensures stands_for { (channels : List ℕ) (opening : Bool) (calls : List Call) → BookStandsFor self.old channels opening calls
+            → MayBeCalled calls (Radar c.now) → BookStandsFor self.new channels opening (Radar c.now ∷ calls) }
     {
         meet_radar(self.moment, c, self.places.as_mut_slice());
     }
@@ -76,8 +91,8 @@ impl DfsBook {
     /// A check begins in an idle slot, at the present moment, and takes `length_ms`
     /// (`NL80211_CMD_RADAR_DETECT`).
     pub fn begin(&mut self, iface: IfSlot, c: &ChanDef, length_ms: u32)
-        ensures stands_for { (channels : List ℕ) (calls : List Call) → BookStandsFor self.old channels calls
-            → MayBeCalled calls (Begin iface c.now length_ms) → BookStandsFor self.new channels (Begin iface c.now length_ms ∷ calls) }
+        ensures stands_for { (channels : List ℕ) (opening : Bool) (calls : List Call) → BookStandsFor self.old channels opening calls
+            → MayBeCalled calls (Begin iface c.now length_ms) → BookStandsFor self.new channels opening (Begin iface c.now length_ms ∷ calls) }
     {
         let slot = iface.place();
         begin_check(self.moment, slot, c, length_ms, self.places.as_mut_slice());
@@ -93,29 +108,43 @@ impl DfsBook {
 
     /// The slot's check is dropped (`NL80211_RADAR_CAC_ABORTED`). Where none runs, nothing changes.
     pub fn drop_check(&mut self, iface: IfSlot)
-        ensures stands_for { (channels : List ℕ) (calls : List Call) → BookStandsFor self.old channels calls
-            → MayBeCalled calls (DropCheck iface) → BookStandsFor self.new channels (DropCheck iface ∷ calls) }
-        ensures unchanged { (channels : List ℕ) (calls : List Call) → BookStandsFor self.old channels calls
+        ensures stands_for { (channels : List ℕ) (opening : Bool) (calls : List Call) → BookStandsFor self.old channels opening calls
+            → MayBeCalled calls (DropCheck iface) → BookStandsFor self.new channels opening (DropCheck iface ∷ calls) }
+        ensures unchanged { (channels : List ℕ) (opening : Bool) (calls : List Call) → BookStandsFor self.old channels opening calls
             → IsFreeSlot calls iface → self.new ≡ self.old }
     {
         self.checks[iface.place()] = None;
     }
 
-    /// The region of the radio has changed (`reg_get_dfs_region`).
-    pub fn region_changed(&mut self)
-        ensures stands_for { (channels : List ℕ) (calls : List Call) → BookStandsFor self.old channels calls
-            → BookStandsFor self.new channels (RegionChanged ∷ calls) }
+    /// The slot's interface, which sends first, operates on this channel from now on, or on none. A check
+    /// that hasn't lapsed on a channel of the operation is kept by it.
+    pub fn operate(&mut self, iface: IfSlot, chan: Option<&ChanDef>)
+        ensures stands_for { (channels : List ℕ) (opening : Bool) (calls : List Call) → BookStandsFor self.old channels opening calls
+            → MayBeCalled calls (Operate iface (option_copied chan.entry))
+            → BookStandsFor self.new channels opening (Operate iface (option_copied chan.entry) ∷ calls) }
     {
-        change_region(self.places.as_mut_slice());
+        let places = self.places.as_mut_slice();
+        settle_each(self.moment, self.lasts, &self.operations, places);
+        self.operations[iface.place()] = chan.copied();
+    }
+
+    /// The region of the radio has changed (`reg_get_dfs_region`). In the new one checks last, as in that
+    /// of ETSI, or lapse.
+    pub fn region_changed(&mut self, lasts: bool)
+        ensures stands_for { (channels : List ℕ) (opening : Bool) (calls : List Call) → BookStandsFor self.old channels opening calls
+            → BookStandsFor self.new channels opening (RegionChanged lasts ∷ calls) }
+    {
+        change_region(lasts, self.places.as_mut_slice());
+        self.lasts = lasts;
     }
 
     /// The state of the channel of this centre, in kHz. A centre that isn't of the book is usable.
     pub fn state(&self, khz: u32) -> Dfs
-        ensures answer { (channels : List ℕ) (calls : List Call) → BookStandsFor self.now channels calls
-            → IsBookAnswer channels calls khz result }
+        ensures answer { (channels : List ℕ) (opening : Bool) (calls : List Call) → BookStandsFor self.now channels opening calls
+            → IsBookAnswer channels opening calls khz result }
     {
         match place_of(khz, self.places.as_slice()) {
-            Some(place) => place.state(self.moment),
+            Some(place) => place.state(self.moment, self.lasts, &self.operations),
             None => Dfs::Usable,
         }
     }
@@ -123,7 +152,7 @@ impl DfsBook {
     /// The channel of the check that runs in the slot, and when it is done, in ms. `None` exactly where
     /// none runs.
     pub fn running(&self, iface: IfSlot) -> Option<(ChanDef, u64)>
-        ensures answer { (channels : List ℕ) (calls : List Call) → BookStandsFor self.now channels calls
+        ensures answer { (channels : List ℕ) (opening : Bool) (calls : List Call) → BookStandsFor self.now channels opening calls
             → IsRunning calls iface result }
     {
         let check = self.checks[iface.place()]?;

@@ -1,7 +1,8 @@
 //! Moments, in ms.
 
-ghost use Rattle.std.specs.Prelude.{◌≡◌, ◌⊎◌, Some};
+ghost use Rattle.std.specs.Prelude.{◌≡◌, ◌⊎◌, ◌↔◌, Some, IsTrue};
 ghost use Rattle.dfs_states.specs.Greatest.{IsMost};
+ghost use Rattle.dfs_states.specs.StandsFor.{IsLongAgo};
 
 /// The last moment, in ms.
 pub const LAST_MOMENT_MS: u64 = 1_000_000_000_000_000;
@@ -22,4 +23,15 @@ pub(crate) fn later(one: Option<u64>, other: Option<u64>) -> Option<u64>
         (None, _) => other,
         (_, None) => one,
     }
+}
+
+/// Whether the check that ended at `end` and the last use, if there was one, are 2,000 ms past.
+pub(crate) fn is_long_ago(now: u64, end: u64, used: Option<u64>) -> bool
+    ensures { IsTrue result ↔ IsLongAgo now end used }
+{
+    let last = match used {
+        Some(moment) => end.max(moment),
+        None => end,
+    };
+    now.saturating_sub(last) >= UNUSED_CHECK_MS
 }

@@ -11,7 +11,7 @@ use Rattle.reg_journal.specs.Due.{EachMayFollow}
 use Rattle.reg_journal.specs.Facts.{Journal}
 use Rattle.reg_journal.specs.Present.{Iface, Operation, ifaces_of, is_indoor, is_used, made_of, now_of, operation_of, profile_of}
 use Rattle.reg_journal.specs.Settled.{AreSettled}
-use Rattle.reg_core.specs.Calls.{calls_of}
+use Rattle.reg_core.specs.Calls.{calls_of, opening_of}
 use Rattle.reg_core.specs.Slots.{slot_of}
 use Rattle.reg_core.specs.declared.core_state.Core.{Core}
 use Rattle.reg_core.specs.declared.interface.Interface.{Interface}
@@ -52,7 +52,7 @@ pub record KeepsRadio (db : List Domain) (J : Journal) (r : ℕ) (radio : Radio)
   pub driver : driver_code_of J r ≡ radio.driver
   pub table : IsTableOf (applies db J r) radio.table
   pub records : AreRecords (applies db J r) radio.chans.chans
-  pub book : BookStandsFor radio.book (map (λ c. c.khz) radio.chans.chans) (calls_of db J r)
+  pub book : BookStandsFor radio.book (map (λ c. c.khz) radio.chans.chans) (opening_of db r) (calls_of db J r)
 
 abbrev pub KeepsPlace : List Domain → Journal → ℕ → RadioPlace → Type 0
 KeepsPlace db J r Free = is_used J r ≡ false

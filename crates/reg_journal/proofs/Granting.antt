@@ -5,7 +5,7 @@ use Rattle.chan_def.specs.Covered.{width_khz, IsCovered}
 use Rattle.chan_def.specs.Kinds.{initiates}
 use Rattle.chan_def.specs.declared.definition.ChanDef.{ChanDef}
 use Rattle.chan_def.specs.declared.width.Width.{Width}
-use Rattle.chan_def.specs.declared.width.Width.TheVariants.{Noht, W20, W40, W80, W160}
+use Rattle.chan_def.specs.declared.width.Width.TheVariants.{Noht, W20, W40, W80, W160, W320}
 use Rattle.chan_flags.specs.Verdicts.{Bars, BarsNone, HasWidth, IsAbove, IsWithinLimit, NoneBars}
 use Rattle.chan_flags.specs.declared.asked.Obstacle.TheVariants.{Missing, Unruled, Narrow, OfdmBarred, IrBarred, OutdoorBarred}
 use Rattle.chan_flags.specs.declared.verdict.PowerSetting.{PowerSetting}
@@ -38,6 +38,7 @@ whole_mhz W20 = refl
 whole_mhz W40 = refl
 whole_mhz W80 = refl
 whole_mhz W160 = refl
+whole_mhz W320 = refl
 
 pub not_above : (setting : PowerSetting) (limit : ℕ) → IsWithinLimit setting limit → IsAbove setting limit → ⊥
 not_above Auto limit within above = above

@@ -1,5 +1,5 @@
 use Rattle.std.proofs.Common.{refl}
-use Rattle.chan_flags.proofs.Covering.{each_covered, each_covered_of_eight, BarsFirst-here, EachBelow-more}
+use Rattle.chan_flags.proofs.Covering.{each_covered, each_covered_of_most, BarsFirst-here, EachBelow-more}
 use Rattle.chan_flags.specs.ByRecords.{BarsBy}
 use Rattle.chan_flags.proofs.barred.lowest_barred.Goals as goal
 
@@ -19,4 +19,4 @@ loop-i-preserved c =
     (λ bar. let so = told bar in cc)
 
 pub returns : goal.returns
-returns c = each_covered_of_eight (λ s. BarsBy c.args.chans.now c.args.asked.now c.args.obstacle s → ⊥) c.args.asked.now.chan _ c.loop-i-test.false c.loop-i.invariant
+returns c = each_covered_of_most (λ s. BarsBy c.args.chans.now c.args.asked.now c.args.obstacle s → ⊥) c.args.asked.now.chan _ c.loop-i-test.false c.loop-i.invariant

@@ -1,5 +1,5 @@
 use Rattle.std.proofs.Common.{◌≡◌, ◌≤◌, IsTrue, arith}
-use Rattle.chan_flags.proofs.Covering.{each_covered, each_covered_of_eight}
+use Rattle.chan_flags.proofs.Covering.{each_covered, each_covered_of_most}
 use Rattle.chan_flags.proofs.Fitting.{EachBelow-fit, one_of_records}
 use Rattle.chan_flags.specs.ByRecords.{chan_with_centre, IfFit}
 use Rattle.chan_flags.proofs.limits.check_ms_by.Goals as goal
@@ -24,7 +24,7 @@ loop-i-preserved c =
 
 pub returns : goal.returns
 returns c = record {
-  records = each_covered_of_eight (λ s. IfFit (λ fit. IsTrue fit.flags.dfs → fit.check_ms ≤ c.loop-i.length_ms) (chan_with_centre c.args.chans.now s)) c.args.asked.now.chan _
+  records = each_covered_of_most (λ s. IfFit (λ fit. IsTrue fit.flags.dfs → fit.check_ms ≤ c.loop-i.length_ms) (chan_with_centre c.args.chans.now s)) c.args.asked.now.chan _
       c.loop-i-test.false c.loop-i.invariant.records;
   greatest = c.loop-i.invariant.greatest;
 }

@@ -1,5 +1,5 @@
 use Rattle.std.proofs.Common.{◌≡◌, ◌≤◌, arith}
-use Rattle.chan_flags.proofs.Covering.{each_covered, each_covered_of_eight}
+use Rattle.chan_flags.proofs.Covering.{each_covered, each_covered_of_most}
 use Rattle.chan_flags.proofs.Fitting.{EachBelow-fit, one_of_records}
 use Rattle.chan_flags.specs.ByRecords.{chan_with_centre, IfFit}
 use Rattle.chan_flags.proofs.limits.limit_mbm_by.Goals as goal
@@ -26,6 +26,6 @@ loop-i-preserved c =
 pub returns : goal.returns
 returns c = record {
   radio = c.loop-i.invariant.radio;
-  records = each_covered_of_eight (λ s. IfFit (λ fit. c.loop-i.limit_mbm ≤ fit.limit_mbm) (chan_with_centre c.args.chans.now s)) c.args.asked.now.chan _ c.loop-i-test.false c.loop-i.invariant.records;
+  records = each_covered_of_most (λ s. IfFit (λ fit. c.loop-i.limit_mbm ≤ fit.limit_mbm) (chan_with_centre c.args.chans.now s)) c.args.asked.now.chan _ c.loop-i-test.false c.loop-i.invariant.records;
   least = c.loop-i.invariant.least;
 }

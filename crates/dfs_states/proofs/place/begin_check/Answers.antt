@@ -6,5 +6,5 @@ use Rattle.dfs_states.proofs.place.begin_check.Goals as goal
 
 pub loop-place-preserved : goal.loop-place-preserved
 loop-place-preserved c =
-    follows_more (PlaceFollows (λ calls. moment_of calls ≡ c.args.now) (Begin c.args.slot c.args.c.now c.args.length_ms)) c.loop-place.place-index c.args.places.now c.loop-place.places _ c.after_begin.result
+    follows_more (PlaceFollows (λ opening calls. moment_of calls ≡ c.args.now) (Begin c.args.slot c.args.c.now c.args.length_ms)) c.loop-place.place-index c.args.places.now c.loop-place.places _ c.after_begin.result
     c.loop-place-test.true c.after_begin.ensures c.loop-place.invariant

@@ -5,4 +5,4 @@ use Rattle.dfs_states.proofs.Each.{FollowsBelow}
 use Rattle.dfs_states.proofs.place.begin_check.Given as goal
 
 abbrev pub invariant-loop-place : goal.invariant-loop-place
-invariant-loop-place l = FollowsBelow (PlaceFollows (λ calls. moment_of calls ≡ l.now) (Begin l.slot l.c l.length_ms)) l.place-index l.initial.places l.places
+invariant-loop-place l = FollowsBelow (PlaceFollows (λ opening calls. moment_of calls ≡ l.now) (Begin l.slot l.c l.length_ms)) l.place-index l.initial.places l.places

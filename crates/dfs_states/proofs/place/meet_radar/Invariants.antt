@@ -5,4 +5,4 @@ use Rattle.dfs_states.proofs.Each.{FollowsBelow}
 use Rattle.dfs_states.proofs.place.meet_radar.Given as goal
 
 abbrev pub invariant-loop-place : goal.invariant-loop-place
-invariant-loop-place l = FollowsBelow (PlaceFollows (λ calls. moment_of calls ≡ l.now) (Radar l.c)) l.place-index l.initial.places l.places
+invariant-loop-place l = FollowsBelow (PlaceFollows (λ opening calls. moment_of calls ≡ l.now) (Radar l.c)) l.place-index l.initial.places l.places

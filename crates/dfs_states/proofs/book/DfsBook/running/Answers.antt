@@ -4,7 +4,7 @@ use Rattle.dfs_states.proofs.book.DfsBook.running.Goals as goal
 
 pub returns-in_err-check : goal.returns-in_err-check
 returns-in_err-check c = record {
-  answer = λ channels calls stands.
+  answer = λ channels opening calls stands.
       let stood = rw (← c.self.view_is) at stands in
       let empty : get_or c.self.inside.checks c.args.iface no_check ≡ no_check =
       subst (λ i. get_or c.self.inside.checks i no_check ≡ no_check) c.place.ensures.number c.in_err-check.was in

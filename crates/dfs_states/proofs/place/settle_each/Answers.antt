@@ -1,0 +1,15 @@
+use Rattle.std.proofs.Common.{arith}
+use Rattle.dfs_states.specs.Calls.{Operate}
+use Rattle.dfs_states.specs.inner.Steps.{PlaceFollows, IsPresent}
+use Rattle.dfs_states.proofs.Each.{follows_more, follows_all}
+use Rattle.dfs_states.proofs.place.settle_each.Goals as goal
+
+pub loop-place-preserved : goal.loop-place-preserved
+loop-place-preserved c = λ slot chan.
+    follows_more (PlaceFollows (IsPresent c.args.now c.args.lasts c.args.operations.now) (Operate slot chan)) c.loop-place.place-index c.args.places.now c.loop-place.places _
+    c.settled.result c.loop-place-test.true (c.settled.ensures slot chan) (c.loop-place.invariant slot chan)
+
+pub returns : goal.returns
+returns c = λ slot chan.
+    follows_all (PlaceFollows (IsPresent c.args.now c.args.lasts c.args.operations.now) (Operate slot chan)) c.loop-place.place-index c.args.places.now c.loop-place.places
+    (omega arith) (c.loop-place.invariant slot chan)
