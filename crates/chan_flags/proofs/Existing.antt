@@ -10,7 +10,7 @@ use Rattle.chan_def.specs.Covered.{width_khz, IsCovered, IsSubchannel}
 use Rattle.chan_def.specs.Kinds.{initiates}
 use Rattle.chan_def.specs.declared.definition.ChanDef.{ChanDef}
 use Rattle.chan_def.specs.declared.width.Width.{Width}
-use Rattle.chan_def.specs.declared.width.Width.TheVariants.{Noht, W20, W40, W80, W160}
+use Rattle.chan_def.specs.declared.width.Width.TheVariants.{Noht, W20, W40, W80, W160, W320}
 use Rattle.rule_intersect.specs.Subchannels.{SomeLacksRule}
 use Rattle.rule_intersect.specs.Tuples.{Choice, check_ms}
 use Rattle.rule_intersect.proofs.OwnRows.{element_at}
@@ -209,6 +209,7 @@ whole W20 = (20, refl)
 whole W40 = (40, refl)
 whole W80 = (80, refl)
 whole W160 = (160, refl)
+whole W320 = (320, refl)
 
 pub within_or_above : (setting : PowerSetting) (limit : ℕ) → IsWithinLimit setting limit ⊎ IsAbove setting limit
 within_or_above Auto limit = inl tt
