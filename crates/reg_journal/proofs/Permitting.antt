@@ -1,12 +1,12 @@
 -- Where nothing ends an operation it may go on, and where nothing bars a start it is granted.
-use Rattle.std.proofs.Common.{ℕ, ◌≤◌, true, List, [], ◌∷◌, length, IsTrue, arith, refl, inl, inr}
-use Rattle.std.proofs.lemmas.Bool.{cases_lt}
-use Rattle.freq_range.specs.Channels.{IsCentre}
+use Rattle.std.proofs.Common.{ℕ, ◌<◌, ◌≤◌, true, false, List, [], ◌∷◌, length, IsTrue, arith, refl, inl, inr}
+use Rattle.std.proofs.lemmas.Bool.{cases_lt, false≢true}
+use Rattle.freq_range.specs.Channels.{IsCentre, IsChannel}
 use Rattle.freq_range.specs.declared.channel.Band.{Band}
 use Rattle.freq_range.specs.declared.channel.Band.TheVariants.{Ghz2, Ghz5, Ghz6}
 use Rattle.freq_range.proofs.Deciding.{Told, told_as, told_both}
 use Rattle.rule_tables.specs.declared.domain.Domain.{Domain}
-use Rattle.chan_def.specs.Covered.{IsValidDef}
+use Rattle.chan_def.specs.Covered.{width_khz, IsValidDef}
 use Rattle.chan_def.specs.Kinds.{initiates}
 use Rattle.chan_def.specs.declared.definition.ChanDef.{ChanDef}
 use Rattle.chan_flags.specs.Profiles.{has_band}
@@ -221,6 +221,27 @@ told_centre khz = told_as (λ (band, n, is, has). (band, n, is)) (λ (band, n, i
     each Ghz5 = refl
     each Ghz6 = refl
 
+band_6 : Bands
+band_6 = record { ghz2 = false; ghz5 = false; ghz6 = true }
+
+told_in_6 : (khz : ℕ) → Told ((n : ℕ) × IsChannel Ghz6 n khz)
+unfolding band_6
+told_in_6 khz = told_as (λ (band, n, is, has). by band n is has) (λ (n, is). (Ghz6, n, is, refl)) (told_radio_channel band_6 khz)
+  where
+    by : (band : Band) (n : ℕ) → IsChannel band n khz → IsTrue (has_band band_6 band) → (n : ℕ) × IsChannel Ghz6 n khz
+    by Ghz2 n is has = absurd (false≢true has)
+    by Ghz5 n is has = absurd (false≢true has)
+    by Ghz6 n is has = (n, is)
+
+told_in_band : (c : ChanDef) → Told (160000 < width_khz c.width → (n : ℕ) × IsChannel Ghz6 n c.control_khz)
+told_in_band c = elim (cases_lt 160000 (width_khz c.width)) [
+  | inr narrow ↦ inl (λ wide. absurd (omega (arith, wide, narrow)))
+  | inl wide ↦ elim (told_in_6 c.control_khz) [
+    | inl found ↦ inl (λ again. found)
+    | inr never ↦ inr (λ needs. never (needs wide))
+  ]
+]
+
 pub told_valid : (c : ChanDef) → Told (IsValidDef c)
-told_valid c = told_as (λ is. record { in_table = is.0; on_channel = is.1 }) (λ valid. (valid.in_table, valid.on_channel))
-    (told_both (told_centre c.control_khz) (told_covered c c.control_khz))
+told_valid c = told_as (λ is. record { in_table = is.0; in_band = is.1.0; on_channel = is.1.1 }) (λ valid. (valid.in_table, (valid.in_band, valid.on_channel)))
+    (told_both (told_centre c.control_khz) (told_both (told_in_band c) (told_covered c c.control_khz)))
