@@ -49,7 +49,7 @@ impl Keeper for DfsBook {
     }
 
     fn region_changed(&mut self) {
-        DfsBook::region_changed(self);
+        DfsBook::region_changed(self, true);
     }
 
     fn state(&self, khz: u32) -> Dfs {

@@ -44,13 +44,13 @@ fn drawn(rt: &HostRuntime) -> Result<Draws, Stop> {
     Ok(Draws::new(bytes.as_slice()))
 }
 
-/// The book of the channels.
+/// The book of the channels, in a region where checks last, as the plain arrays keep them.
 fn book(rt: &HostRuntime) -> Result<DfsBook, Stop> {
     let mut centres = [0u32; CHANNELS];
     for (k, khz) in centres.iter_mut().enumerate() {
         *khz = centre_khz(k);
     }
-    Ok(DfsBook::new(rt.alloc(), &centres)?)
+    Ok(DfsBook::new(rt.alloc(), &centres, true)?)
 }
 
 /// What the task has found.

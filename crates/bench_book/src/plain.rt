@@ -38,6 +38,7 @@ fn places(c: &ChanDef) -> (usize, usize)
         Width::W40 => 2,
         Width::W80 => 4,
         Width::W160 => 8,
+        Width::W320 => 16,
     };
     let first = (c.control_khz.saturating_sub(LOWEST_KHZ) / 20_000) as usize;
     (first.min(CHANNELS), (first + count).min(CHANNELS))

@@ -1,5 +1,5 @@
 -- There is a verdict on whatever is asked.
-use Rattle.std.proofs.Common.{◌≡◌, ℕ, ◌+◌, ◌-◌, ◌*◌, ◌/◌, ◌<◌, ◌≤◌, ◌⊎◌, false, List, Contains, IsTrue, arith, refl, sym, subst, ap, inl, inr}
+use Rattle.std.proofs.Common.{◌≡◌, ℕ, ◌+◌, ◌-◌, ◌*◌, ◌/◌, ◌<◌, ◌⊎◌, false, List, Contains, IsTrue, arith, refl, subst, inl, inr}
 use Rattle.std.proofs.lemmas.Bool.{cases_eq, cases_lt}
 use Rattle.freq_range.proofs.Deciding.{Told, tells_bool, told_any, told_as, told_both, told_lt}
 use Rattle.rule_tables.specs.Governing.{NoneGoverns}
@@ -10,7 +10,7 @@ use Rattle.chan_def.specs.Covered.{width_khz, IsCovered, IsSubchannel}
 use Rattle.chan_def.specs.Kinds.{initiates}
 use Rattle.chan_def.specs.declared.definition.ChanDef.{ChanDef}
 use Rattle.chan_def.specs.declared.width.Width.{Width}
-use Rattle.chan_def.specs.declared.width.Width.TheVariants.{Noht, W20, W40, W80, W160}
+use Rattle.chan_def.specs.declared.width.Width.TheVariants.{Noht, W20, W40, W80, W160, W320}
 use Rattle.rule_intersect.specs.Subchannels.{SomeLacksRule}
 use Rattle.rule_intersect.specs.Tuples.{Choice, check_ms}
 use Rattle.rule_intersect.proofs.OwnRows.{element_at}
@@ -161,7 +161,7 @@ first_or_none bars c tell = elim (ends_covered Downward downward (λ s n. bars s
 
 -- ---- limits and lengths
 
-some_limit : (ds : List Domain) (q : Asked) → (limit : ℕ) × IsLimit ds q limit
+pub some_limit : (ds : List Domain) (q : Asked) → (limit : ℕ) × IsLimit ds q limit
 some_limit ds q = from (ends_either Downward downward (λ n. n ≡ q.profile.power_mbm) (λ n. (s : ℕ) × IsCovered q.chan s × SomeGoverning (λ g. Unit {0} × (n ≡ g.rule.eirp_mbm)) ds s)
     (ends_as Downward (λ n. Unit {0} × (n ≡ q.profile.power_mbm)) _ (λ n is. is.1) (λ n is. (tt, is)) (ends_one Downward downward (Unit {0}) q.profile.power_mbm (inl tt)))
     (ends_covered Downward downward (λ s n. SomeGoverning (λ g. Unit {0} × (n ≡ g.rule.eirp_mbm)) ds s) (ends_of_domains Downward downward (λ g. Unit {0}) (λ g. g.rule.eirp_mbm) (λ g. inl tt) ds) q.chan))
@@ -209,6 +209,7 @@ whole W20 = (20, refl)
 whole W40 = (40, refl)
 whole W80 = (80, refl)
 whole W160 = (160, refl)
+whole W320 = (320, refl)
 
 pub within_or_above : (setting : PowerSetting) (limit : ℕ) → IsWithinLimit setting limit ⊎ IsAbove setting limit
 within_or_above Auto limit = inl tt

@@ -25,7 +25,7 @@ told_step first last n = told_as
     (λ step. (step.from_first, (step.to_last, step.by_four)))
     (told_both (told_le first n) (told_both (told_le n last) (cases_eq ((n - first) % 4) 0)))
 
-told_channel : (band : Band) (n khz : ℕ) → Told (IsChannel band n khz)
+pub told_channel : (band : Band) (n khz : ℕ) → Told (IsChannel band n khz)
 told_channel Ghz2 n khz = told_either
     (told_as (λ parts. (parts.0, parts.1.0, parts.1.1)) (λ is. (is.0, (is.1, is.2))) (told_both (told_le 1 n) (told_both (told_le n 13) (cases_eq khz (2407000 + 5000 * n)))))
     (told_both (cases_eq n 14) (cases_eq khz 2484000))

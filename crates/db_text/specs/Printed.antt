@@ -22,9 +22,11 @@ use Rattle.text_lines.specs.Spelling.{item_name, region_name}
 abbrev pub entry_numbers : WmmEntry → List ℕ
 entry_numbers e = e.min_exp ∷ e.max_exp ∷ e.aifsn ∷ e.cot_ms ∷ []
 
+-- a WMM rule's eight entries, in the order in which they are printed
 abbrev pub entries_of : Wmm → List WmmEntry
 entries_of w = w.vo_c ∷ w.vi_c ∷ w.be_c ∷ w.bk_c ∷ w.vo_ap ∷ w.vi_ap ∷ w.be_ap ∷ w.bk_ap ∷ []
 
+-- all numbers of a WMM rule
 unfoldable pub wmm_numbers : Wmm → List ℕ
 wmm_numbers w = flat_map entry_numbers (entries_of w)
 
@@ -36,9 +38,11 @@ same_wmm w other = pointwise nat_eq (wmm_numbers w) (wmm_numbers other)
 abbrev pub wmm_in_rule : Rule → List Wmm
 wmm_in_rule rule = option_to_list rule.wmm
 
+-- the WMM rules that the rules name, in their order, with repeats
 abbrev pub wmm_in_rules : List Rule → List Wmm
 wmm_in_rules rules = flat_map wmm_in_rule rules
 
+-- the WMM rules that the domains name, in their order, with repeats
 abbrev pub wmm_in : List Domain → List Wmm
 wmm_in ds = flat_map (λ d. wmm_in_rules d.rules) ds
 
@@ -90,6 +94,7 @@ country_line d = codes "country " ++ (d.alpha2.a ∷ d.alpha2.b ∷ []) ++ codes
 unfoldable pub rule_line : List Wmm → Rule → List ℕ
 rule_line ws rule = codes "\t" ++ printed_rule rule (option_map (name_among ws) rule.wmm)
 
+-- the header of a country, and a line for each of its rules
 abbrev pub country_lines : List Wmm → Domain → List (List ℕ)
 country_lines ws d = country_line d ∷ map (rule_line ws) d.rules
 
@@ -99,6 +104,7 @@ country_lines ws d = country_line d ∷ map (rule_line ws) d.rules
 abbrev pub ended : List ℕ → List ℕ
 ended line = line ++ codes "\n"
 
+-- each line with its newline
 abbrev pub text_of_lines : List (List ℕ) → List ℕ
 text_of_lines lines = flat_map ended lines
 
@@ -116,6 +122,7 @@ printed ds = text_of_lines (printed_lines (first_uses (wmm_in ds)) ds)
 abbrev pub LacksTimes : List Rule → Type 0
 LacksTimes rules = All (λ (rule : Rule). rule.cac_s ≡ 0) rules
 
+-- no rule of the domains has a check time
 abbrev pub LackTimes : List Domain → Type 0
 LackTimes ds = All (λ d. LacksTimes d.rules) ds
 

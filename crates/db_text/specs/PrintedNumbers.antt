@@ -15,11 +15,14 @@ thousandths n =
 abbrev pub mhz_of : ℕ → Decimal
 mhz_of khz = record { whole = decimal (khz / 1000); fraction = thousandths (khz % 1000) }
 
+-- hundredths of a dBm as a decimal number of dBm
 abbrev pub dbm_of : ℕ → Decimal
 dbm_of mbm = record { whole = decimal (mbm / 100); fraction = thousandths (mbm % 100 * 10) }
 
+-- a frequency in kHz as it is printed in MHz
 unfoldable pub decimal_mhz_text : ℕ → List ℕ
 decimal_mhz_text khz = decimal_text (mhz_of khz)
 
+-- a power in mBm as it is printed in dBm
 unfoldable pub dbm_text : ℕ → List ℕ
 dbm_text mbm = decimal_text (dbm_of mbm)

@@ -28,6 +28,7 @@ whole_mhz_text khz = decimal (khz / 1000)
 
 -- ---- answers
 
+-- how a hint was taken
 abbrev pub hint_text : HintAnswer → List ℕ
 hint_text (Treated Replace) = codes "replaced"
 hint_text (Treated Intersect) = codes "intersected"
@@ -35,6 +36,7 @@ hint_text (Treated Already) = codes "already set"
 hint_text (Treated Ignore) = codes "ignored"
 hint_text Own = codes "own"
 
+-- a refusal without the word `refused`; subchannels in MHz, powers in mBm, widths in MHz
 abbrev pub refusal_text : Refusal → List ℕ
 refusal_text (MomentBack now) = codes "moment back " ++ decimal now
 refusal_text (MomentTooLarge asked) = codes "moment too large " ++ decimal asked
@@ -82,6 +84,7 @@ answer_text (Refused refusal) = codes "refused: " ++ refusal_text refusal
 
 -- ---- effects
 
+-- an effect is indented by a tab
 abbrev pub effect_text : Effect → List ℕ
 effect_text (Stopped name) = codes "\tstopped " ++ name
 effect_text (Dropped name) = codes "\tdropped " ++ name
@@ -89,6 +92,7 @@ effect_text (EffectPower name power) = codes "\tpower " ++ (name ++ (codes " " +
 
 -- ---- replies
 
+-- a line for each effect
 abbrev pub effect_lines : List Effect → List ℕ
 effect_lines effects = flat_map (λ effect. line_of (effect_text effect)) effects
 
@@ -96,6 +100,7 @@ effect_lines effects = flat_map (λ effect. line_of (effect_text effect)) effect
 abbrev pub plain_text : Answer → List Effect → List ℕ
 plain_text answer effects = line_of (answer_text answer) ++ effect_lines effects
 
+-- an answer with its effects, and no dump
 abbrev pub IsPlain : Reply → Type 0
 IsPlain (Plain answer effects) = Unit {0}
 IsPlain reply = ⊥
@@ -111,8 +116,10 @@ AppendsTextOf reply before now = (text : List ℕ) × IsTextOf reply text × (no
 
 -- ---- faults of lines
 
+-- the name of a fault, as it is printed
 abbrev pub fault_name : LineFault → List ℕ
 fault_name NotBuilt = codes "not built"
 
+-- the line that answers a faulty line of a script
 abbrev pub line_fault_text : LineFault → List ℕ
 line_fault_text fault = line_of (codes "line fault: " ++ fault_name fault)

@@ -18,6 +18,7 @@ use Rattle.reg_journal.specs.declared.request.Request.TheVariants.{At, RadioAdd,
 abbrev pub radio_text : ℕ → List ℕ
 radio_text radio = codes "phy" ++ decimal radio
 
+-- a code is spelled by its two bytes
 abbrev pub code_text : Alpha2 → List ℕ
 code_text code = code.a ∷ code.b ∷ []
 

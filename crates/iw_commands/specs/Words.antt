@@ -6,6 +6,7 @@ use Rattle.std.specs.List.{slice_split}
 abbrev pub is_line_blank : ℕ → Bool
 is_line_blank b = b == 32 || b == 9
 
+-- it has no bytes
 abbrev pub is_empty : List ℕ → Bool
 is_empty [] = true
 is_empty (b ∷ bs) = false

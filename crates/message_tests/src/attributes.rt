@@ -1,5 +1,7 @@
 //! Attributes written out by hand from the format: lists, walks, payloads of each kind, nested ones.
 
+ghost use Rattle.std.specs.Prelude.{◌<◌, ◌≤◌, length, OnOk};
+
 use nl_attrs::{
     Attr, AttrList, AttrsFault, Breach, EncodeFault, Payload, Walk, attrs_bytes, attrs_of,
     begin_nested, end_nested, i32_of, put_attr, put_plain, text_of, u8_of, u16_of, u32_of, u64_of,
@@ -128,16 +130,24 @@ const RULES: [u8; 28] = [
     12, 0, 1, 0x80, 8, 0, 2, 0, 16, 39, 0, 0,
 ];
 
+/// Writes a rule with one number.
+fn put_rule(out: &mut Bytes, place: u16, kind: u16, number: u32) -> Result<(), Fail>
+    requires place { place < 16384 }
+    requires kind { kind < 16384 }
+    ensures { OnOk result (length out.old ≤ length out.new) }
+{
+    let rule = begin_nested(out, place)?;
+    put_plain(out, kind, Payload::U32(number))?;
+    end_nested(out, rule)?;
+    Ok(())
+}
+
 #[test]
 fn nested_attributes(rt: HostRuntime) -> Result<(), Fail> {
     let mut out = Bytes::new(rt.alloc());
     let rules = begin_nested(&mut out, 34)?;
-    let first = begin_nested(&mut out, 0)?;
-    put_plain(&mut out, 1, Payload::U32(8))?;
-    end_nested(&mut out, first)?;
-    let second = begin_nested(&mut out, 1)?;
-    put_plain(&mut out, 2, Payload::U32(10_000))?;
-    end_nested(&mut out, second)?;
+    put_rule(&mut out, 0, 1, 8)?;
+    put_rule(&mut out, 1, 2, 10_000)?;
     end_nested(&mut out, rules)?;
     assert!(rt; out.as_slice() == RULES.as_slice());
     Ok(())

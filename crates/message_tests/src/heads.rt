@@ -27,6 +27,8 @@ fn heads_of_messages(rt: HostRuntime) -> Result<(), Fail> {
         version: 0,
         attrs,
     };
+    let mut out = Bytes::new(alloc);
+    put_message(&mut out, &stop)?;
     let head = head_of(&stop);
     assert!(rt; head.as_slice() == &MESSAGES[..16]);
     let error = Msg::Error {
@@ -36,6 +38,7 @@ fn heads_of_messages(rt: HostRuntime) -> Result<(), Fail> {
         code: -22,
         head,
     };
+    put_message(&mut out, &error)?;
     assert!(rt; head_of(&error).as_slice() == &MESSAGES[32..48]);
     let done = Msg::Done {
         flags: 2,
@@ -43,11 +46,8 @@ fn heads_of_messages(rt: HostRuntime) -> Result<(), Fail> {
         pid: 3,
         code: 0,
     };
-    assert!(rt; head_of(&done).as_slice() == &MESSAGES[68..84]);
-    let mut out = Bytes::new(alloc);
-    put_message(&mut out, &stop)?;
-    put_message(&mut out, &error)?;
     put_message(&mut out, &done)?;
+    assert!(rt; head_of(&done).as_slice() == &MESSAGES[68..84]);
     assert!(rt; out.as_slice() == MESSAGES.as_slice());
     Ok(())
 }

@@ -1,7 +1,7 @@
 -- The first 16 bytes of a message are its head.
-use Rattle.std.proofs.Common.{◌≡◌, ℕ, ◌+◌, ◌≤◌, List, [], ◌∷◌, ◌++◌, length, take, All, refl, sym, ap, ◌∙◌, arith}
+use Rattle.std.proofs.Common.{◌≡◌, ℕ, ◌+◌, ◌≤◌, List, [], ◌∷◌, length, take, All, refl, sym, ap, ◌∙◌, arith}
 use Rattle.std.specs.Prelude.{ℤ}
-use Rattle.std.proofs.lemmas.List.{length-append, take_at, take-append-le}
+use Rattle.std.proofs.lemmas.List.{length-append, take_at}
 use Rattle.std.proofs.lemmas.List.Elements.{All-nil, All-cons}
 use Rattle.nl_attrs.specs.Attributes.{attr_bytes, attrs_bytes}
 use Rattle.nl_attrs.specs.Messages.{head_bytes, spelled, body_of, type_of, header_flags, seq_of, pid_of}

@@ -1,7 +1,7 @@
 -- A nested attribute that is written where it stands.
 use Rattle.std.proofs.Common.{◌≡◌, ℕ, ◌+◌, ◌≤◌, true, List, ◌++◌, length, take, drop, replicate, refl, sym, ap, ◌∙◌, append_assoc, arith}
 use Rattle.std.specs.Int.{w16, to_le_bytes}
-use Rattle.std.proofs.lemmas.List.{length-append, take_at, drop_at, drop-drop}
+use Rattle.std.proofs.lemmas.List.{length-append, length-take, length-drop, take_at, drop_at, drop-drop}
 use Rattle.nl_attrs.specs.Endian.{le16}
 use Rattle.nl_attrs.specs.Attributes.{attr_bytes, kind_field, padding_length}
 use Rattle.nl_attrs.specs.Nesting.{begun_bytes, nested_with}
@@ -49,3 +49,10 @@ nested_written old padded over before payload start n kind start-is old-is n-is 
 pub four_more : (old one two : List ℕ) (m n : ℕ) → one ≡ old ++ le16 m → two ≡ one ++ le16 n → length two ≡ length old + 4
 four_more old one two m n one-is two-is =
     rw (two-is, one-is) (simp (length-append, length-le16) (omega arith))
+
+-- what is written over two bytes is as long, and a buffer with padding is no shorter
+pub longer : (old padded over : List ℕ) (k place n : ℕ) → place + 4 ≤ length old → padded ≡ old ++ replicate k 0 → over ≡ take place padded ++ (le16 n ++ drop (place + 2) padded) → length old ≤ length (take (length padded) (over ++ drop (length over) padded))
+longer old padded over k place n within padded-is over-is =
+    let more : length padded ≡ length old + length (replicate {A = ℕ} k 0) = ap length padded-is ∙ length-append old (replicate k 0) in
+    let same : length over ≡ length padded = rw over-is (simp (length-append, length-le16) (omega (arith, length-take place padded, length-drop (place + 2) padded))) in
+    rw (take_at over (drop (length over) padded) (length padded) same) (omega arith)

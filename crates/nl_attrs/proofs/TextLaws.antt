@@ -1,7 +1,6 @@
 -- The text of a payload is one.
-use Rattle.std.proofs.Common.{◌≡◌, ◌≢◌, ℕ, ◌+◌, ◌<◌, ◌≤◌, List, [], ◌∷◌, ◌++◌, length, get_or, refl, sym, ap, ◌∙◌, inl, inr, arith}
+use Rattle.std.proofs.Common.{◌≡◌, ℕ, List, [], ◌∷◌, ◌++◌, length, get_or, refl, sym, ap, ◌∙◌, inl, inr, arith}
 use Rattle.std.proofs.lemmas.List.{append_cancel_right, length-append}
-use Rattle.std.proofs.lemmas.List.Elements.{All-get_or}
 use Rattle.nl_attrs.specs.Payloads.{IsZeroFree, Tells}
 use Rattle.nl_attrs.specs.inner.Texts.{DropsZero}
 

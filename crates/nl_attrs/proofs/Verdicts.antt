@@ -1,25 +1,23 @@
 -- At the front of bytes is what is undecided, a message or a fault, and each stream has its messages.
-use Rattle.std.proofs.Common.{◌≡◌, ◌≢◌, ℕ, zero, suc, ◌+◌, ◌-◌, ◌<◌, ◌≤◌, ◌⊎◌, List, [], ◌∷◌, ◌++◌, length, take, drop, All, Option, Some, None, refl, sym, ap, subst, ◌∙◌, inl, inr, append_assoc, arith}
+use Rattle.std.proofs.Common.{◌≡◌, ℕ, zero, suc, ◌+◌, ◌<◌, ◌≤◌, ◌⊎◌, List, [], ◌∷◌, ◌++◌, length, take, drop, All, Option, Some, None, refl, sym, ap, subst, ◌∙◌, inl, inr, append_assoc, arith}
 use Rattle.std.specs.Prelude.{ℤ, MatchOption}
 use Rattle.std.specs.Int.{w32, cast_signed}
-use Rattle.std.specs.List.{flat_map}
 use Rattle.std.proofs.lemmas.Bool.{cases_lt, cases_eq}
 use Rattle.std.proofs.lemmas.List.{length-append, length-take, length-drop, take-append-drop, drop_at}
 use Rattle.std.proofs.lemmas.List.Elements.{All-nil, All-cons, All-head, All-tail, All-append, All-take, All-drop}
 use Rattle.nl_attrs.specs.Endian.{AreBytes, le16_at, le32_at}
-use Rattle.nl_attrs.specs.Attributes.{HasAttrs, HasBreach}
 use Rattle.nl_attrs.specs.Messages.{IsMsg, head_bytes, spelled, all_spelled}
 use Rattle.nl_attrs.specs.Faults.{IsFault, IsUndecided, IsFamilyWhole, length_at, type_at, body_at, length_fault, type_fault}
-use Rattle.nl_attrs.specs.Streams.{AreMessages, HasMessage, HasHeldFault, joined}
+use Rattle.nl_attrs.specs.Streams.{AreMessages, HasMessage, IsFaulty, joined}
 use Rattle.nl_attrs.specs.inner.Reading.{IsWhole}
 use Rattle.nl_attrs.specs.declared.fault.AttrFault.{AttrFault}
 use Rattle.nl_attrs.specs.declared.fault.AttrFault.TheVariants.{BadAttr}
 use Rattle.nl_attrs.specs.declared.message.Msg.{Msg}
-use Rattle.nl_attrs.specs.declared.message.Msg.TheVariants.{Generic, Error, Done}
+use Rattle.nl_attrs.specs.declared.message.Msg.TheVariants.{Error, Done}
 use Rattle.nl_attrs.proofs.Places.{bytes_at, u16_at-lt, u32_at-lt}
 use Rattle.nl_attrs.proofs.Judged.{length_good, error_length, done_length, family_type}
 use Rattle.nl_attrs.proofs.Fronts.{length_at-front, type_at-front}
-use Rattle.nl_attrs.proofs.ReadBodies.{head_taken, error_taken, done_taken, generic_taken, read_generic_is, code_fits, code_as_read}
+use Rattle.nl_attrs.proofs.ReadBodies.{head_taken, error_taken, done_taken, generic_taken, read_generic_is, code_fits}
 use Rattle.nl_attrs.proofs.Written.{done_is, error_is}
 use Rattle.nl_attrs.proofs.MsgLaws.{length-msg}
 use Rattle.nl_attrs.proofs.Told.{attrs_told}
@@ -69,7 +67,7 @@ error_found held n fits whole kind =
     found held n (Error (le16_at b 6) (le32_at b 8) (le32_at b 12) code (drop 4 body)) (error_is _ _ _ code (drop 4 body) (u16_at-lt b 6 (bytes_at b b_fits)) (u32_at-lt b 8 (bytes_at b b_fits)) (u32_at-lt b 12 (bytes_at b b_fits)) (code_fits body code body_fits refl) head_len (All-drop (λ x. x < 256) 4 body body_bytes)) spelt
 
 -- a message of a family is whole: it is judged by its reserved number, and then by its attributes
-family_told : (held : List ℕ) (n : ℕ) → AreBytes held → IsWhole held n → 16 ≤ type_at held → HasMessage held ⊎ HasHeldFault held
+family_told : (held : List ℕ) (n : ℕ) → AreBytes held → IsWhole held n → 16 ≤ type_at held → HasMessage held ⊎ IsFaulty held
 family_told held n fits whole high =
     let b : List ℕ = take n held in
     let b_fits : AreBytes b = All-take (λ x. x < 256) n held fits in
@@ -96,7 +94,7 @@ family_told held n fits whole high =
           ]
     ]
 
-whole_told : (held : List ℕ) (n : ℕ) → AreBytes held → IsWhole held n → HasMessage held ⊎ HasHeldFault held
+whole_told : (held : List ℕ) (n : ℕ) → AreBytes held → IsWhole held n → HasMessage held ⊎ IsFaulty held
 whole_told held n fits whole =
     elim (cases_eq (type_at held) 2) [
       | inl error ↦ inl (error_found held n fits whole error)
@@ -107,7 +105,7 @@ whole_told held n fits whole =
           ]
     ]
 
-by_type : (held : List ℕ) (fault : Option AttrFault) → AreBytes held → 6 ≤ length held → length_fault (length_at held) ≡ None → type_fault (length_at held) (type_at held) ≡ fault → IsUndecided held ⊎ (HasMessage held ⊎ HasHeldFault held)
+by_type : (held : List ℕ) (fault : Option AttrFault) → AreBytes held → 6 ≤ length held → length_fault (length_at held) ≡ None → type_fault (length_at held) (type_at held) ≡ fault → IsUndecided held ⊎ (HasMessage held ⊎ IsFaulty held)
 by_type held (Some f) fits six good bad = inr (inr (f, inr (inl (record { seen = six; good_length = good; bad = bad }))))
 by_type held None fits six good kind_good =
     let long = length_good (length_at held) good in
@@ -116,7 +114,7 @@ by_type held None fits six good kind_good =
       | inr whole ↦ inr (whole_told held (length_at held) fits (record { is = refl; good = record { good_length = good; good_type = kind_good }; long = long.0; short = long.2; within = whole }))
     ]
 
-by_length : (held : List ℕ) (fault : Option AttrFault) → AreBytes held → 4 ≤ length held → length_fault (length_at held) ≡ fault → IsUndecided held ⊎ (HasMessage held ⊎ HasHeldFault held)
+by_length : (held : List ℕ) (fault : Option AttrFault) → AreBytes held → 4 ≤ length held → length_fault (length_at held) ≡ fault → IsUndecided held ⊎ (HasMessage held ⊎ IsFaulty held)
 by_length held (Some f) fits four bad = inr (inr (f, inl (record { seen = four; bad = bad })))
 by_length held None fits four good =
     let long = (length_good (length_at held) good).0 in
@@ -125,7 +123,7 @@ by_length held None fits four good =
       | inr six ↦ by_type held (type_fault (length_at held) (type_at held)) fits six good refl
     ]
 
-pub verdict : (held : List ℕ) → AreBytes held → IsUndecided held ⊎ (HasMessage held ⊎ HasHeldFault held)
+pub verdict : (held : List ℕ) → AreBytes held → IsUndecided held ⊎ (HasMessage held ⊎ IsFaulty held)
 verdict held fits =
     elim (cases_lt (length held) 4) [
       | inl few ↦ inl (inl few)

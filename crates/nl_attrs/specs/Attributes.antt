@@ -36,6 +36,7 @@ attr_bytes a =
     le16 (4 + length a.payload)
     ++ (le16 (kind_field a.kind a.nested) ++ (a.payload ++ replicate (padding_length (length a.payload)) 0))
 
+-- the attributes one after another
 abbrev pub attrs_bytes : List Attr → List ℕ
 attrs_bytes attrs = flat_map attr_bytes attrs
 
@@ -43,6 +44,7 @@ attrs_bytes attrs = flat_map attr_bytes attrs
 abbrev pub padding_at : List ℕ → ℕ → List ℕ
 padding_at bytes n = take (padding_length n) (drop n bytes)
 
+-- each byte is zero
 abbrev pub is_zero : List ℕ → Bool
 is_zero bytes = list_all (λ b. b == 0) bytes
 

@@ -10,6 +10,7 @@ AreBytes bytes = All (λ b. b < 256) bytes
 unfoldable pub le16 : ℕ → List ℕ
 le16 n = to_le_bytes w16 n
 
+-- a number in four bytes, the lowest first
 unfoldable pub le32 : ℕ → List ℕ
 le32 n = to_le_bytes w32 n
 
@@ -20,6 +21,7 @@ le64 n = to_le_bytes w64 n
 unfoldable pub le16_at : List ℕ → ℕ → ℕ
 le16_at b i = from_le_bytes w16 (take 2 (drop i b))
 
+-- the number in the four bytes at this place
 unfoldable pub le32_at : List ℕ → ℕ → ℕ
 le32_at b i = from_le_bytes w32 (take 4 (drop i b))
 

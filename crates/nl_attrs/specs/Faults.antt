@@ -9,6 +9,7 @@ use Rattle.nl_attrs.specs.declared.fault.AttrFault.TheVariants.{BadLength, Overl
 abbrev pub length_at : List ℕ → ℕ
 length_at held = le32_at held 0
 
+-- the type in the header
 abbrev pub type_at : List ℕ → ℕ
 type_at held = le16_at held 4
 

@@ -18,21 +18,25 @@ type_of (Generic family flags seq pid cmd version attrs) = family
 type_of (Error flags seq pid code head) = 2
 type_of (Done flags seq pid code) = 3
 
+-- the flags in its header
 abbrev pub header_flags : Msg → ℕ
 header_flags (Generic family flags seq pid cmd version attrs) = flags
 header_flags (Error flags seq pid code head) = flags
 header_flags (Done flags seq pid code) = flags
 
+-- its sequence number
 abbrev pub seq_of : Msg → ℕ
 seq_of (Generic family flags seq pid cmd version attrs) = seq
 seq_of (Error flags seq pid code head) = seq
 seq_of (Done flags seq pid code) = seq
 
+-- its port
 abbrev pub pid_of : Msg → ℕ
 pid_of (Generic family flags seq pid cmd version attrs) = pid
 pid_of (Error flags seq pid code head) = pid
 pid_of (Done flags seq pid code) = pid
 
+-- its attributes; an Error and a Done message have none
 abbrev pub attrs_in : Msg → List Attr
 attrs_in (Generic family flags seq pid cmd version attrs) = attrs
 attrs_in (Error flags seq pid code head) = []
@@ -49,6 +53,7 @@ body_of (Done flags seq pid code) = le32 (cast_unsigned w32 code)
 unfoldable pub spelled : Msg → List ℕ
 spelled m = head_bytes (16 + length (body_of m)) (type_of m) (header_flags m) (seq_of m) (pid_of m) ++ body_of m
 
+-- the bytes of the messages, one after another
 abbrev pub all_spelled : List Msg → List ℕ
 all_spelled messages = flat_map spelled messages
 

@@ -1,5 +1,5 @@
 -- A nested attribute that is written where it stands: its header first, with the length left open, then its payload.
-use Rattle.std.specs.Prelude.{◌≡◌, ℕ, ◌+◌, ◌-◌, ◌<◌, ◌≤◌, true, List, ◌++◌, length}
+use Rattle.std.specs.Prelude.{◌≡◌, ℕ, ◌+◌, ◌<◌, ◌≤◌, true, List, ◌++◌, length}
 use Rattle.nl_attrs.specs.Endian.{le16}
 use Rattle.nl_attrs.specs.Attributes.{kind_field}
 use Rattle.nl_attrs.specs.declared.attr.Attr.{Attr}

@@ -7,6 +7,7 @@ use Rattle.nl_attrs.specs.declared.message.Msg.{Msg}
 use Rattle.nl_attrs.specs.declared.fault.EncodeFault.{EncodeFault}
 use Rattle.nl_attrs.specs.declared.fault.EncodeFault.TheVariants as encode_faults
 
+-- with its header it has at most 65,535 bytes
 abbrev pub IsShort : Attr → Type 0
 IsShort a = length a.payload ≤ 65531
 

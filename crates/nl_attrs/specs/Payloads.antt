@@ -1,5 +1,5 @@
 -- What payloads say: numbers, texts, and bytes as they are.
-use Rattle.std.specs.Prelude.{◌≡◌, ◌≢◌, ℕ, ◌+◌, ◌⊎◌, false, List, [], ◌∷◌, ◌++◌, All}
+use Rattle.std.specs.Prelude.{◌≡◌, ◌≢◌, ℕ, ◌⊎◌, false, List, [], ◌∷◌, ◌++◌, All}
 use Rattle.std.specs.Int.{w32, cast_unsigned}
 use Rattle.nl_attrs.specs.Endian.{le16, le32, le64}
 use Rattle.nl_attrs.specs.declared.attr.Attr.{Attr}

@@ -17,8 +17,8 @@ joined pieces = flat_map (λ piece. piece) pieces
 abbrev pub HasMessage : List ℕ → Type 0
 HasMessage held = (m : Msg) × (rest : List ℕ) × IsMsg m × (held ≡ spelled m ++ rest)
 
-abbrev pub HasHeldFault : List ℕ → Type 0
-HasHeldFault held = (fault : AttrFault) × IsFault held fault
+abbrev pub IsFaulty : List ℕ → Type 0
+IsFaulty held = (fault : AttrFault) × IsFault held fault
 
 -- The stream is the spellings of the messages, and a rest that is undecided or has the fault at its front.
 pub record AreMessages (stream : List ℕ) (messages : List Msg) (fault : Option AttrFault) : Type 0 where
@@ -33,6 +33,7 @@ pub record Decoding : Type 0 where
   pub taken : ℕ
   pub fault : Option AttrFault
 
+-- a decoder that was fed nothing
 abbrev pub nothing_fed : Decoding
 nothing_fed = record { held = []; taken = 0; fault = None }
 
@@ -41,6 +42,7 @@ abbrev pub held_with : Option AttrFault → List ℕ → List ℕ → List ℕ
 held_with None held piece = held ++ piece
 held_with (Some fault) held piece = held
 
+-- it was fed the piece; after a fault it takes no more
 abbrev pub with_piece : Decoding → List ℕ → Decoding
 with_piece d piece = record { held = held_with d.fault d.held piece; taken = d.taken; fault = d.fault }
 

@@ -59,8 +59,9 @@ fn put_short(out: &mut Bytes, attr: &Attr) -> Result<(), OutOfMemory>
     Ok(())
 }
 
-/// Writes an attribute. The kind is below 16,384. `EncodeFault::Overlong` names the length of a
-/// payload above 65,531 bytes, and changes nothing.
+/// Writes an attribute behind what the buffer holds. The kind is below 16,384.
+/// `EncodeFault::Overlong` names the length of a payload above 65,531 bytes, and changes nothing.
+/// After `OutOfMemory` a part of it may stand there.
 pub fn put_attr(out: &mut Bytes, attr: &Attr) -> Result<(), EncodeFault>
     requires kind { attr.now.kind < 16384 }
     ensures ok { OnOk result (out.new ≡ out.old ++ attr_bytes attr.now) }
@@ -75,8 +76,7 @@ pub fn put_attr(out: &mut Bytes, attr: &Attr) -> Result<(), EncodeFault>
     Ok(())
 }
 
-/// Writes an attribute that holds no others. The kind is below 16,384. `EncodeFault::Overlong`
-/// names the length of a payload above 65,531 bytes, and changes nothing.
+/// Writes an attribute that holds no others, as `put_attr` does.
 #[tactic(auto, unfolding(crate::specs::Attributes::attr_bytes))]
 pub fn put_plain(out: &mut Bytes, kind: u16, payload: Payload<'_>) -> Result<(), EncodeFault>
     requires kind { kind < 16384 }
@@ -94,7 +94,8 @@ pub fn put_plain(out: &mut Bytes, kind: u16, payload: Payload<'_>) -> Result<(),
     Ok(())
 }
 
-/// Writes attributes one after another.
+/// Writes attributes one after another. Their kinds are below 16,384. After `OutOfMemory` a part of
+/// them may stand behind what the buffer held.
 pub fn put_attrs(out: &mut Bytes, attrs: &[Attr]) -> Result<(), OutOfMemory>
     requires kinds { All (λ a. a.kind < 16384) attrs.now }
     requires short { All IsShort attrs.now }

@@ -5,7 +5,7 @@ ghost use Rattle.nl_attrs.specs.Endian.{AreBytes};
 ghost use Rattle.nl_attrs.specs.Attributes.{IsAttr, IsFirstBreach, HasAttrs, HasBreach, aligned, attr_bytes, attrs_bytes};
 ghost use Rattle.nl_attrs.specs.Faults.{IsFamilyWhole, IsFault, IsUndecided, length_at};
 ghost use Rattle.nl_attrs.specs.Messages.{IsMsg, spelled, all_spelled};
-ghost use Rattle.nl_attrs.specs.Streams.{AreMessages, HasMessage, HasHeldFault, joined};
+ghost use Rattle.nl_attrs.specs.Streams.{AreMessages, HasMessage, IsFaulty, joined};
 ghost use Rattle.nl_attrs.specs.declared.attr.Attr.{Attr};
 ghost use Rattle.nl_attrs.specs.declared.fault.AttrFault.{AttrFault};
 ghost use Rattle.nl_attrs.specs.declared.message.Msg.{Msg};
@@ -37,7 +37,7 @@ pub fn one_verdict()
     ensures waits { (held : List ℕ) → IsUndecided held → IsFamilyWhole held → ⊥ }
     ensures fault { (held : List ℕ) (f g : AttrFault) → IsFault held f → IsFault held g → f ≡ g }
     ensures exists { (held : List ℕ) → AreBytes held
-        → IsUndecided held ⊎ (HasMessage held ⊎ HasHeldFault held) }
+        → IsUndecided held ⊎ (HasMessage held ⊎ IsFaulty held) }
 {}
 
 /// A stream of bytes has one list of messages and at most one fault, whatever the cut of its pieces. The

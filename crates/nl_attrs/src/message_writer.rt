@@ -93,9 +93,10 @@ fn put_generic(
     Ok(())
 }
 
-/// Writes the one spelling of a message. The family is at least 16, and the kinds of attributes are
-/// below 16,384. `EncodeFault::Overlong` names the length of the first payload above 65,531 bytes,
-/// or else of the message where that is above 65,536 bytes, and changes nothing.
+/// Writes the one spelling of a message behind what the buffer holds. The family is at least 16, and
+/// the kinds of attributes are below 16,384. `EncodeFault::Overlong` names the length of the first
+/// payload above 65,531 bytes, or else of the message where that is above 65,536 bytes, and changes
+/// nothing. After `OutOfMemory` a part of it may stand there.
 pub fn put_message(out: &mut Bytes, m: &Msg) -> Result<(), EncodeFault>
     requires { IsInRange m.now }
     ensures bytes { OnOk result (out.new ≡ out.old ++ spelled m.now) }

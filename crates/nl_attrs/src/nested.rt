@@ -28,7 +28,8 @@ impl Model for Nested {
 }
 
 /// Begins a nested attribute behind what the buffer holds. What is written next is its payload, up
-/// to `end_nested`. The kind is below 16,384.
+/// to `end_nested`. The kind is below 16,384. After `OutOfMemory` a part of its header may stand
+/// there.
 pub fn begin_nested(out: &mut Bytes, kind: u16) -> Result<Nested, OutOfMemory>
     requires kind { kind < 16384 }
     ensures start { IfOk result (λ nested. nested ≡ length out.old) }
@@ -58,6 +59,7 @@ pub fn end_nested(out: &mut Bytes, nested: Nested) -> Result<(), EncodeFault>
         → out.old ≡ before ++ (begun_bytes kind ++ payload)
         → OnOk result (out.new ≡ before ++ attr_bytes (nested_with kind payload)) }
     ensures short { OnOk result (FitsNested out.old nested) }
+    ensures longer { OnOk result (length out.old ≤ length out.new) }
     ensures fault { IfErr result (IsNestedFault out.old nested) }
     ensures kept { OnErr result (out.new ≡ out.old) }
 {

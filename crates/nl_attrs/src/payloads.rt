@@ -53,7 +53,7 @@ impl<'a> Payload<'a> {
     }
 }
 
-/// Writes a payload.
+/// Writes a payload behind what the buffer holds. After `OutOfMemory` a part of it may stand there.
 pub fn put_payload(out: &mut Bytes, payload: Payload<'_>) -> Result<(), OutOfMemory>
     ensures { OnOk result (out.new ≡ out.old ++ payload_bytes payload.entry) }
 {

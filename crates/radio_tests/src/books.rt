@@ -60,8 +60,10 @@ enum Step {
     Begin(u8, ChanDef, u32),
     /// The slot's check is dropped.
     Drop(u8),
-    /// The region changes.
-    Region,
+    /// The slot's interface operates on this channel from now on, or on none.
+    Operate(u8, Option<ChanDef>),
+    /// The region changes to one where checks last, or to one where they lapse.
+    Region(bool),
     /// The channel of this centre, in kHz, is in this state.
     Is(u32, Dfs),
     /// The channels are in these states, from the lowest on.
@@ -86,7 +88,8 @@ fn make(rt: &impl Abort, book: &mut DfsBook, k: usize, step: &Step) {
         Step::Radar(khz) => book.radar(&narrow(*khz)),
         Step::Begin(n, chan, length_ms) => book.begin(slot(rt, *n), chan, *length_ms),
         Step::Drop(n) => book.drop_check(slot(rt, *n)),
-        Step::Region => book.region_changed(),
+        Step::Operate(n, chan) => book.operate(slot(rt, *n), chan.as_ref()),
+        Step::Region(lasts) => book.region_changed(*lasts),
         Step::Is(khz, state) => assert!(rt; book.state(*khz) == *state, "step {k}"),
         Step::Are(states) => {
             for (i, khz) in CHANNELS.iter().enumerate() {
@@ -103,9 +106,14 @@ fn make(rt: &impl Abort, book: &mut DfsBook, k: usize, step: &Step) {
     }
 }
 
-/// Makes the steps in turn, over a new book.
+/// Makes the steps in turn, over a new book of a region where checks last.
 fn make_all(rt: &impl Abort, alloc: Global, steps: &[Step]) -> Result<(), Fail> {
-    let mut book = DfsBook::new(alloc, &CHANNELS)?;
+    make_over(rt, alloc, true, steps)
+}
+
+/// Makes the steps in turn, over a new book of a region where checks last or lapse.
+fn make_over(rt: &impl Abort, alloc: Global, lasts: bool, steps: &[Step]) -> Result<(), Fail> {
+    let mut book = DfsBook::new(alloc, &CHANNELS, lasts)?;
     for (k, step) in steps.iter().enumerate() {
         make(rt, &mut book, k, step);
     }
@@ -200,8 +208,8 @@ fn another_region_and_back(rt: HostRuntime) -> Result<(), Fail> {
         Step::At(60_000),
         Step::Radar(5_280_000),
         Step::Is(5_260_000, available(60_000)),
-        Step::Region,
-        Step::Region,
+        Step::Region(true),
+        Step::Region(true),
         Step::Is(5_260_000, Dfs::Usable),
         Step::Is(5_280_000, unavailable(1_860_000)),
     ];
@@ -229,7 +237,7 @@ fn a_check_outlives_its_loss(rt: HostRuntime) -> Result<(), Fail> {
 fn a_region_voids_a_running_check(rt: HostRuntime) -> Result<(), Fail> {
     let steps = [
         Step::Begin(0, UPPER, MINUTE),
-        Step::Region,
+        Step::Region(true),
         Step::Runs(0, UPPER, 60_000),
         Step::At(60_000),
         Step::Are([Dfs::Usable; 8]),
@@ -270,4 +278,94 @@ fn a_dropped_check_never_counts(rt: HostRuntime) -> Result<(), Fail> {
         Step::Are([available(90_000), none, none, none, none, none, none, none]),
     ];
     make_all(&rt, rt.alloc(), &steps)
+}
+
+#[test]
+fn an_unused_check_lapses(rt: HostRuntime) -> Result<(), Fail> {
+    let home = narrow(5_260_000);
+    let steps = [
+        Step::Begin(0, home, MINUTE),
+        Step::At(61_999),
+        Step::Is(5_260_000, available(60_000)),
+        Step::At(62_000),
+        Step::Is(5_260_000, Dfs::Usable),
+        // The lapse is for good: an operation brings nothing back.
+        Step::Operate(0, Some(home)),
+        Step::Is(5_260_000, Dfs::Usable),
+        Step::At(62_001),
+        Step::Is(5_260_000, Dfs::Usable),
+    ];
+    make_over(&rt, rt.alloc(), false, &steps)
+}
+
+#[test]
+fn a_used_check_lapses_after_its_use(rt: HostRuntime) -> Result<(), Fail> {
+    let home = narrow(5_260_000);
+    let steps = [
+        Step::Begin(0, home, MINUTE),
+        Step::At(61_999),
+        Step::Operate(0, Some(home)),
+        Step::At(100_000),
+        Step::Is(5_260_000, available(60_000)),
+        Step::Operate(0, None),
+        Step::At(101_999),
+        Step::Is(5_260_000, available(60_000)),
+        Step::Operate(0, Some(home)),
+        Step::Operate(0, None),
+        Step::At(103_998),
+        Step::Is(5_260_000, available(60_000)),
+        Step::At(103_999),
+        Step::Is(5_260_000, Dfs::Usable),
+    ];
+    make_over(&rt, rt.alloc(), false, &steps)
+}
+
+#[test]
+fn use_keeps_its_own_subchannels(rt: HostRuntime) -> Result<(), Fail> {
+    let stands = available(60_000);
+    let none = Dfs::Usable;
+    let steps = [
+        Step::Begin(0, WHOLE, MINUTE),
+        Step::At(60_000),
+        Step::Operate(3, Some(narrow(5_260_000))),
+        Step::Operate(5, Some(narrow(5_280_000))),
+        Step::At(62_000),
+        Step::Are([none, none, none, none, stands, stands, none, none]),
+        Step::Operate(3, Some(narrow(5_280_000))),
+        Step::Operate(5, None),
+        Step::At(64_000),
+        Step::Are([none, none, none, none, none, stands, none, none]),
+    ];
+    make_over(&rt, rt.alloc(), false, &steps)
+}
+
+#[test]
+fn a_check_lapses_within_a_jump(rt: HostRuntime) -> Result<(), Fail> {
+    let steps = [
+        Step::Begin(0, UPPER, MINUTE),
+        Step::Begin(1, narrow(5_260_000), 2 * MINUTE),
+        Step::At(62_000),
+        Step::Are([Dfs::Usable; 8]),
+        Step::At(121_999),
+        Step::Is(5_260_000, available(120_000)),
+        Step::Is(5_280_000, Dfs::Usable),
+    ];
+    make_over(&rt, rt.alloc(), false, &steps)
+}
+
+#[test]
+fn checks_last_in_one_region_and_lapse_in_another(rt: HostRuntime) -> Result<(), Fail> {
+    let steps = [
+        Step::Begin(0, narrow(5_260_000), MINUTE),
+        Step::At(90_000),
+        Step::Is(5_260_000, available(60_000)),
+        Step::Region(false),
+        Step::Is(5_260_000, Dfs::Usable),
+        Step::Begin(0, narrow(5_260_000), MINUTE),
+        Step::At(151_999),
+        Step::Is(5_260_000, available(150_000)),
+        Step::At(152_000),
+        Step::Is(5_260_000, Dfs::Usable),
+    ];
+    make_over(&rt, rt.alloc(), true, &steps)
 }

@@ -1,7 +1,7 @@
 //! The channels of a radio under one country and under two, and a verdict of each kind.
 
 use crate::domains::{AUTO_BW, DFS, NO_IR, NO_OFDM, NO_OUTDOOR, domain, first, next, rule};
-use chan_def::{ChanDef, Kind, Width};
+use chan_def::{ChanDef, Kind, Width, subchannels};
 use chan_flags::{Bands, Chan, ChanRefusal, Fit, PowerSetting, Profile, RadioChans, Verdict};
 use freq_range::{Rule, RuleFlags};
 use std::alloc::Global;
@@ -207,5 +207,41 @@ fn powers_and_checks_of_two_countries(rt: HostRuntime) -> Result<(), Fail> {
         let found = judged(&rt, &chans, &quiet, kind, false, PowerSetting::Auto);
         assert!(rt; found == fits(2200, 0));
     }
+    Ok(())
+}
+
+#[test]
+fn channels_of_320_mhz(rt: HostRuntime) -> Result<(), Fail> {
+    let wide = channel(5955, Width::W320, 6105);
+    assert!(rt; !channel(6275, Width::W320, 6105).valid());
+    assert!(rt; !channel(5180, Width::W320, 5330).valid());
+    assert!(rt; wide.valid());
+    assert!(rt; subchannels(&wide, 0) == Some(5_955_000));
+    assert!(rt; subchannels(&wide, 15) == Some(6_255_000));
+    assert!(rt; subchannels(&wide, 16).is_none());
+    assert!(rt; Width::numbered(13) == Some(Width::W320));
+    assert!(rt; Width::numbered(4).is_none());
+    assert!(rt; Width::W320.number() == 13);
+    Ok(())
+}
+
+#[test]
+fn verdicts_on_320_mhz(rt: HostRuntime) -> Result<(), Fail> {
+    let bands = Bands {
+        ghz2: false,
+        ghz5: false,
+        ghz6: true,
+    };
+    let rules = [rule(5925, 7125, 320, 2300, RuleFlags::NONE)];
+    let table = first(rt.alloc(), &domain(rt.alloc(), &rules)?)?;
+    let profile = Profile::new(bands, 320, 0, 3000, 1, false, false).expect(&rt, "a profile");
+    let mut chans = RadioChans::new(rt.alloc(), profile)?;
+    chans.refresh(&table);
+    let wide = channel(5955, Width::W320, 6105);
+    let found = judged(&rt, &chans, &wide, Kind::Ap, false, PowerSetting::Auto);
+    assert!(rt; found == fits(2300, 0));
+    let past = channel(7115, Width::W320, 7265);
+    let found = judged(&rt, &chans, &past, Kind::Ap, false, PowerSetting::Auto);
+    assert!(rt; found == Verdict::Refused(ChanRefusal::LacksChannel(7_135_000)));
     Ok(())
 }

@@ -10,7 +10,7 @@ use Rattle.dfs_states.proofs.Splits.{has_cases}
 use Rattle.reg_journal.specs.Facts.{Journal, radio_added, radio_removed, made}
 use Rattle.reg_journal.specs.Present.{is_used, profile_of, radio_of}
 use Rattle.reg_journal.specs.Due.{EachMayFollow}
-use Rattle.reg_core.specs.Calls.{calls_of}
+use Rattle.reg_core.specs.Calls.{calls_of, checks_last_on}
 use Rattle.reg_core.proofs.Newcomers.{blank_calls}
 use Rattle.reg_core.proofs.Over.{region_pushed}
 
@@ -42,7 +42,7 @@ pub added_blank : (db : List Domain) (J : Journal) (r : ℕ) (profile : Abilitie
     → AreBlank (calls_of db (radio_added r profile ∷ J) r)
 added_blank db J r profile due =
     region_pushed AreBlank db (radio_added r profile) J r (calls_of db J r)
-    (λ call has. elim (has_cases RegionChanged call (calls_of db J r) has) [
+    (λ call has. elim (has_cases (RegionChanged (checks_last_on db (radio_added r profile ∷ J) r)) call (calls_of db J r) has) [
       | inl same ↦ subst (λ c. IsBlank c) same tt
       | inr older ↦ blank call older
     ])

@@ -11,7 +11,7 @@ use Rattle.reg_journal.specs.Facts.{Journal}
 use Rattle.chan_def.specs.Same.{is_same_channel}
 use Rattle.reg_journal.specs.Permits.{channel_of, distinct_from}
 use Rattle.reg_journal.specs.Present.{Iface, ifaces_of, is_apart}
-use Rattle.reg_core.specs.Calls.{calls_of}
+use Rattle.reg_core.specs.Calls.{calls_of, opening_of}
 use Rattle.reg_core.specs.inner.Contexts.{IsBeside, IsOf, added, channel_beside}
 use Rattle.reg_core.specs.inner.Judging.{IsAmong}
 use Rattle.reg_core.specs.Kept.{kept, interfaces_of}
@@ -72,7 +72,7 @@ is_of_other db J x y book interface other is on = record {
   there = is.other_there;
   interface_is = is.other_is;
   channels = is.of.channels;
-  book_is = subst (λ r. BookStandsFor book is.of.channels (calls_of db J r)) (sym same) is.of.book_is;
+  book_is = subst (λ r. BookStandsFor book is.of.channels (opening_of db r) (calls_of db J r)) (sym same) is.of.book_is;
 }
   where
     same : y.radio ≡ x.radio

@@ -1,20 +1,21 @@
 -- Which fact a call comes from.
-use Rattle.std.proofs.Common.{◌≡◌, ℕ, ◌==◌, Bool, true, false, List, ◌∷◌, Option, Some, None, if◌then◌else◌, refl, sym, ap, subst, ◌∙◌, eq-eqb, eqb-true}
+use Rattle.std.proofs.Common.{◌≡◌, ℕ, ◌==◌, Bool, true, false, ◌&&◌, List, ◌∷◌, Option, Some, None, if◌then◌else◌, refl, sym, ap, subst, ◌∙◌, eq-eqb, eqb-true}
 use Rattle.std.specs.Option.{option_map_or}
-use Rattle.std.proofs.lemmas.Bool.{false≢true}
+use Rattle.std.proofs.lemmas.Bool.{false≢true, and_parts, and_from}
 use Rattle.std.proofs.lemmas.Option.{none-some, same_Some, cond_some}
 use Rattle.rule_tables.specs.declared.code.Region.{Region}
 use Rattle.rule_tables.specs.declared.code.Region.TheVariants.{Unset, Fcc, Etsi, Jp}
 use Rattle.rule_tables.specs.declared.domain.Domain.{Domain}
 use Rattle.chan_def.specs.declared.definition.ChanDef.{ChanDef}
-use Rattle.dfs_states.specs.Calls.{Call, Advance, Radar, Begin, DropCheck, RegionChanged}
-use Rattle.reg_journal.specs.Facts.{Fact, Journal, moment_is, radio_added, radio_removed, hinted, radar_met, check_begun, check_dropped}
+use Rattle.dfs_states.specs.Calls.{Call, Advance, Radar, Begin, DropCheck, Operate, RegionChanged}
+use Rattle.reg_journal.specs.Facts.{Fact, Journal, moment_is, radio_added, radio_removed, hinted, radar_met, started, stopped, check_begun, check_dropped}
 use Rattle.rule_tables.specs.Regions.{is_same_region}
 use Rattle.reg_journal.specs.Applicable.{region_of}
 use Rattle.reg_journal.specs.OnAir.{is_on}
 use Rattle.reg_journal.specs.Present.{radio_of}
-use Rattle.reg_core.specs.Calls.{region_call, call_of}
+use Rattle.reg_core.specs.Calls.{region_call, operation_call, sends_first, checks_last_on, call_of}
 use Rattle.reg_core.specs.Slots.{slot_of}
+use Rattle.reg_core.specs.inner.Operating.{TellsOperation}
 
 -- ---- the radio of an interface
 
@@ -46,9 +47,9 @@ same_region_true Jp Jp is = refl
 same_region_true one other is = absurd cc
 
 -- a change of the region is told where the regions differ
-region_parts : (same : Bool) (call : Call) → (if same then None else Some RegionChanged) ≡ Some call → (same ≡ false) × (RegionChanged ≡ call)
-region_parts true call is = absurd (none-some call is)
-region_parts false call is = (refl, same_Some RegionChanged call is)
+region_parts : (same lasts : Bool) (call : Call) → (if same then None else Some (RegionChanged lasts)) ≡ Some call → (same ≡ false) × (RegionChanged lasts ≡ call)
+region_parts true lasts call is = absurd (none-some call is)
+region_parts false lasts call is = (refl, same_Some (RegionChanged lasts) call is)
 
 -- ---- the facts that calls come from
 
@@ -58,12 +59,20 @@ ComesFrom db f J r (Advance moment) = f ≡ moment_is moment
 ComesFrom db f J r (Radar chan) = f ≡ radar_met r chan
 ComesFrom db f J r (Begin slot chan length) = (i : ℕ) × (f ≡ check_begun i chan length) × (radio_of J i ≡ Some r) × (slot_of J i ≡ slot)
 ComesFrom db f J r (DropCheck slot) = (i : ℕ) × (f ≡ check_dropped i) × (radio_of J i ≡ Some r) × (slot_of J i ≡ slot)
-ComesFrom db f J r RegionChanged = is_same_region (region_of db (f ∷ J) r) (region_of db J r) ≡ false
+ComesFrom db f J r (Operate slot chan) = (i : ℕ) × TellsOperation f i chan × (radio_of J i ≡ Some r) × (sends_first J i ≡ true) × (slot_of J i ≡ slot)
+ComesFrom db f J r (RegionChanged lasts) = is_same_region (region_of db (f ∷ J) r) (region_of db J r) ≡ false
 
 region_from : (db : List Domain) (f : Fact) (J : Journal) (r : ℕ) (call : Call) → region_call db f J r ≡ Some call → ComesFrom db f J r call
 region_from db f J r call is =
-    let parts = region_parts (is_same_region (region_of db (f ∷ J) r) (region_of db J r)) call is in
+    let parts = region_parts (is_same_region (region_of db (f ∷ J) r) (region_of db J r)) (checks_last_on db (f ∷ J) r) call is in
     subst (λ c. ComesFrom db f J r c) parts.1 parts.0
+
+operation_from : (db : List Domain) (f : Fact) (J : Journal) (r i : ℕ) (chan : Option ChanDef) (call : Call) → TellsOperation f i chan → operation_call J r i chan ≡ Some call
+    → ComesFrom db f J r call
+operation_from db f J r i chan call tells is =
+    let parts = cond_some (is_on J i r && sends_first J i) (Operate (slot_of J i) chan) call is in
+    let both = and_parts (is_on J i r) (sends_first J i) parts.0 in
+    subst (λ c. ComesFrom db f J r c) parts.1 (i, tells, radio_on J i r both.0, both.1, refl)
 
 -- what each call comes from
 pub comes_from : (db : List Domain) (f : Fact) (J : Journal) (r : ℕ) (call : Call) → call_of db f J r ≡ Some call → ComesFrom db f J r call
@@ -77,6 +86,8 @@ comes_from db (check_begun i chan length) J r call is =
 comes_from db (check_dropped i) J r call is =
     let parts = cond_some (is_on J i r) (DropCheck (slot_of J i)) call is in
     subst (λ c. ComesFrom db (check_dropped i) J r c) parts.1 (i, refl, radio_on J i r parts.0, refl)
+comes_from db (started i chan power) J r call is = operation_from db (started i chan power) J r i (Some chan) call (power, refl) is
+comes_from db (stopped i) J r call is = operation_from db (stopped i) J r i None call refl is
 comes_from db (hinted hint) J r call is = region_from db (hinted hint) J r call is
 comes_from db (radio_added q profile) J r call is = region_from db (radio_added q profile) J r call is
 comes_from db (radio_removed q) J r call is = region_from db (radio_removed q) J r call is
@@ -97,9 +108,19 @@ call-begin db J r i chan length radio = rw (on_radio J i r radio)
 pub call-drop : (db : List Domain) (J : Journal) (r i : ℕ) → radio_of J i ≡ Some r → call_of db (check_dropped i) J r ≡ Some (DropCheck (slot_of J i))
 call-drop db J r i radio = rw (on_radio J i r radio)
 
+-- an operation of one of the radio's interfaces that sends first
+pub call-operation : (db : List Domain) (f : Fact) (J : Journal) (r i : ℕ) (chan : Option ChanDef) → TellsOperation f i chan → radio_of J i ≡ Some r → sends_first J i ≡ true
+    → call_of db f J r ≡ Some (Operate (slot_of J i) chan)
+call-operation db f J r i None tells radio sends =
+    subst (λ g. call_of db g J r ≡ Some (Operate (slot_of J i) None)) (sym tells)
+    (ap (λ b. if b then Some (Operate (slot_of J i) None) else None) (and_from (is_on J i r) (sends_first J i) (on_radio J i r radio) sends))
+call-operation db f J r i (Some chan) tells radio sends =
+    subst (λ g. call_of db g J r ≡ Some (Operate (slot_of J i) (Some chan))) (sym tells.1)
+    (ap (λ b. if b then Some (Operate (slot_of J i) (Some chan)) else None) (and_from (is_on J i r) (sends_first J i) (on_radio J i r radio) sends))
+
 -- where the region differs, the book is told so
 pub call-region : (db : List Domain) (f : Fact) (J : Journal) (r : ℕ) → is_same_region (region_of db (f ∷ J) r) (region_of db J r) ≡ false
-    → call_of db f J r ≡ Some RegionChanged
+    → call_of db f J r ≡ Some (RegionChanged (checks_last_on db (f ∷ J) r))
 call-region db (hinted hint) J r differs = rw differs
 call-region db (radio_added q profile) J r differs = rw differs
 call-region db (radio_removed q) J r differs = rw differs

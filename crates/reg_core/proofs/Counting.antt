@@ -1,5 +1,5 @@
 -- The checks that count for a subchannel are those of the radio's book.
-use Rattle.std.proofs.Common.{◌≡◌, ℕ, ◌+◌, List, [], ◌∷◌, ◌++◌, Some, sym, ap, subst, ◌∙◌, inl, inr, append_assoc, ne_eqb, false}
+use Rattle.std.proofs.Common.{◌≡◌, ℕ, ◌+◌, Bool, List, [], ◌∷◌, ◌++◌, Some, sym, ap, subst, ◌∙◌, inl, inr, append_assoc, ne_eqb, false}
 use Rattle.std.proofs.lemmas.Bool.{cases_eq, cases_Bool, false≢true}
 use Rattle.rule_tables.specs.declared.domain.Domain.{Domain}
 use Rattle.chan_def.specs.declared.definition.ChanDef.{ChanDef}
@@ -11,7 +11,7 @@ use Rattle.reg_journal.specs.Applicable.{region_of}
 use Rattle.reg_journal.specs.Present.{radio_of, check_of}
 use Rattle.reg_journal.specs.Due.{EachMayFollow}
 use Rattle.reg_journal.specs.Radar.{HasRadar, HasCheck, IsKept, KeepsRegion, Counts}
-use Rattle.reg_core.specs.Calls.{call_of, calls_of}
+use Rattle.reg_core.specs.Calls.{checks_last_on, call_of, calls_of}
 use Rattle.reg_core.specs.Slots.{slot_of}
 use Rattle.reg_core.proofs.Apart.{slots_apart}
 use Rattle.reg_core.proofs.Begins.{due_at, home_begun, radio_begun, begin_of_check, began_again, running_home}
@@ -51,22 +51,22 @@ radar_from_book db facts base r s has =
 -- ---- regions
 
 -- that the region stayed since a moment, both ways
-region_to_book : (db : List Domain) (facts base : Journal) (r : ℕ) → KeepsRegion db facts base r → HasCall (calls_over db facts base r) RegionChanged → ⊥
-region_to_book db facts base r keeps has =
-    let over = from_over db facts base r has.newer RegionChanged has.older has.at in
+region_to_book : (db : List Domain) (facts base : Journal) (r : ℕ) → KeepsRegion db facts base r → (lasts : Bool) → HasCall (calls_over db facts base r) (RegionChanged lasts) → ⊥
+region_to_book db facts base r keeps lasts has =
+    let over = from_over db facts base r has.newer (RegionChanged lasts) has.older has.at in
     let differs : is_same_region (region_of db (over.fact ∷ (over.between ++ base)) r) (region_of db (over.between ++ base) r) ≡ false =
-    comes_from db over.fact (over.between ++ base) r RegionChanged over.is in
+    comes_from db over.fact (over.between ++ base) r (RegionChanged lasts) over.is in
     let same : region_of db (over.fact ∷ (over.between ++ base)) r ≡ region_of db (over.between ++ base) r = keeps over.newer over.fact over.between over.at in
     false≢true (sym (rw same at differs) ∙ same_region_self (region_of db (over.between ++ base) r))
 
-region_from_book : (db : List Domain) (facts base : Journal) (r : ℕ) → (HasCall (calls_over db facts base r) RegionChanged → ⊥) → KeepsRegion db facts base r
+region_from_book : (db : List Domain) (facts base : Journal) (r : ℕ) → ((lasts : Bool) → HasCall (calls_over db facts base r) (RegionChanged lasts) → ⊥) → KeepsRegion db facts base r
 region_from_book db facts base r keeps newer f between at =
     elim (cases_Bool (is_same_region (region_of db (f ∷ (between ++ base)) r) (region_of db (between ++ base) r))) [
       | inl same ↦ same_region_true (region_of db (f ∷ (between ++ base)) r) (region_of db (between ++ base) r) same
-      | inr differs ↦ absurd (keeps (record {
+      | inr differs ↦ absurd (keeps (checks_last_on db (f ∷ (between ++ base)) r) (record {
         newer = calls_over db newer (f ∷ (between ++ base)) r;
         older = calls_over db between base r;
-        at = over_at db facts newer between base f r RegionChanged at (call-region db f (between ++ base) r differs);
+        at = over_at db facts newer between base f r (RegionChanged (checks_last_on db (f ∷ (between ++ base)) r)) at (call-region db f (between ++ base) r differs);
       }))
     ]
 

@@ -1,13 +1,13 @@
 -- A book is told nothing but what it may be told.
-use Rattle.std.proofs.Common.{ℕ, ◌+◌, ◌==◌, ◌≤◌, List, [], ◌∷◌, subst, sym}
+use Rattle.std.proofs.Common.{ℕ, ◌+◌, ◌==◌, ◌≤◌, ◌&&◌, List, [], ◌∷◌, Some, None, subst, sym}
 use Rattle.rule_tables.specs.declared.domain.Domain.{Domain}
-use Rattle.dfs_states.specs.Calls.{Radar, Begin, DropCheck}
+use Rattle.dfs_states.specs.Calls.{Radar, Begin, DropCheck, Operate}
 use Rattle.dfs_states.specs.Meaning.{EachMayBeCalled as AreDueCalls}
-use Rattle.reg_journal.specs.Facts.{Journal, moment_is, radio_added, radio_removed, hinted, radar_met, check_begun, check_dropped}
+use Rattle.reg_journal.specs.Facts.{Journal, moment_is, radio_added, radio_removed, hinted, radar_met, started, stopped, check_begun, check_dropped}
 use Rattle.reg_journal.specs.OnAir.{is_on}
 use Rattle.reg_journal.specs.Present.{check_of}
 use Rattle.reg_journal.specs.Due.{EachMayFollow}
-use Rattle.reg_core.specs.Calls.{calls_of}
+use Rattle.reg_core.specs.Calls.{calls_of, sends_first}
 use Rattle.reg_core.specs.Slots.{slot_of}
 use Rattle.reg_core.proofs.Begins.{home_begun}
 use Rattle.reg_core.proofs.CallOf.{radio_on}
@@ -35,6 +35,11 @@ due_calls db (check_dropped i ∷ J) r due =
     let runs = runs_of_check db J i r k due.1 (radio_on J i r is) check.1 in
     (record { chan = k.chan; start = k.begin; end = k.begin + k.length; runs = runs }, due_calls db J r due.1))
     (due_calls db J r due.1)
+due_calls db (started i chan power ∷ J) r due =
+    where_pushed AreDueCalls (is_on J i r && sends_first J i) (Operate (slot_of J i) (Some chan)) (calls_of db J r) (λ is. (due.0.1, due_calls db J r due.1))
+    (due_calls db J r due.1)
+due_calls db (stopped i ∷ J) r due =
+    where_pushed AreDueCalls (is_on J i r && sends_first J i) (Operate (slot_of J i) None) (calls_of db J r) (λ is. (tt, due_calls db J r due.1)) (due_calls db J r due.1)
 due_calls db (hinted hint ∷ J) r due = region_pushed AreDueCalls db (hinted hint) J r (calls_of db J r) (tt, due_calls db J r due.1) (due_calls db J r due.1)
 due_calls db (radio_added q profile ∷ J) r due =
     region_pushed AreDueCalls db (radio_added q profile) J r (calls_of db J r) (tt, due_calls db J r due.1) (due_calls db J r due.1)

@@ -11,7 +11,7 @@ use Rattle.reg_journal.specs.Facts.{Journal}
 use Rattle.reg_journal.specs.Permits.{channel_in, channel_of}
 use Rattle.reg_journal.specs.Present.{Check, Iface, Operation, check_of, ifaces_of, operation_of, profile_of}
 use Rattle.reg_journal.specs.Refusals.{IsInUse}
-use Rattle.reg_core.specs.Calls.{calls_of}
+use Rattle.reg_core.specs.Calls.{calls_of, opening_of}
 use Rattle.reg_core.specs.inner.Contexts.{IsOf}
 use Rattle.reg_core.specs.inner.InUse.{IsKeptAmong}
 use Rattle.reg_core.specs.Kept.{KeepsRadio, KeepsRadios, kept, interfaces_of}
@@ -44,7 +44,7 @@ used_by_book db J x places interface radio o among keeps read =
       there = among.there;
       interface_is = among.interface_is;
       channels = map (λ c. c.khz) radio.chans.chans;
-      book_is = subst (λ r. BookStandsFor radio.book (map (λ c. c.khz) radio.chans.chans) (calls_of db J r)) (interface_radio J x interface among.interface_is) keeps.book;
+      book_is = subst (λ r. BookStandsFor radio.book (map (λ c. c.khz) radio.chans.chans) (opening_of db r) (calls_of db J r)) (interface_radio J x interface among.interface_is) keeps.book;
     } in
     subst (λ o. IsTrue (is_some o) ↔ IsInUse J x) (sym (read is)) (used_on_channel J x)
 

@@ -8,7 +8,8 @@ use Rattle.rule_intersect.specs.Tables.{IsTableOf, Joined}
 use Rattle.chan_flags.specs.Profiles.{IsProfile}
 use Rattle.chan_flags.specs.Records.{AreRecords, Recorded}
 use Rattle.dfs_states.specs.Book.{Book}
-use Rattle.dfs_states.specs.Calls.{Advance, RegionChanged}
+use Rattle.chan_def.specs.declared.definition.ChanDef.{ChanDef}
+use Rattle.dfs_states.specs.Calls.{Advance, Operate, RegionChanged}
 use Rattle.dfs_states.specs.Meaning.{MayBeCalled as IsCallDue}
 use Rattle.dfs_states.specs.StandsFor.{BookStandsFor}
 use Rattle.reg_hints.specs.Table.{Hinted, Own, State, Treated}
@@ -18,21 +19,22 @@ use Rattle.rule_tables.specs.World.{custom_domain}
 use Rattle.rule_tables.specs.Regions.{is_same_region}
 use Rattle.reg_journal.specs.Applicable.{applies, custom_domains, driver_code_of, hints_of, is_self_managed, region_of}
 use Rattle.reg_journal.specs.Due.{MayFollow}
-use Rattle.reg_journal.specs.Facts.{Journal, hinted, moment_is, rules_are}
+use Rattle.reg_journal.specs.Facts.{Fact, Journal, hinted, moment_is, rules_are}
 use Rattle.reg_journal.specs.Present.{custom_rules_of, no_abilities}
-use Rattle.reg_core.specs.Calls.{calls_of, pushed}
+use Rattle.reg_core.specs.Calls.{call_of, calls_of, checks_last_on, opening_of, pushed}
 use Rattle.reg_core.specs.inner.Hinting.{driver_after, list_after}
 use Rattle.reg_core.specs.Kept.{KeepsRadio, KeepsPlace}
 use Rattle.reg_core.specs.inner.Lists.{applies_by, region_by}
 use Rattle.reg_core.specs.declared.radio.Radio.{Radio}
 use Rattle.reg_core.specs.declared.radio.RadioPlace.{RadioPlace}
+use Rattle.reg_core.specs.inner.Operating.{TellsOperation}
 use Rattle.reg_core.proofs.NewRadios.{applies_by-same}
 use Rattle.reg_core.proofs.Moments.{now_of-calls}
 
 -- ---- moments
 
 pub advanced : (db : List Domain) (J : Journal) (r now : ℕ) (old : Radio) (book : Book) → KeepsRadio db J r old → MayFollow db J (moment_is now)
-    → (IsCallDue (calls_of db J r) (Advance now) → BookStandsFor book (map (λ c. c.khz) old.chans.chans) (Advance now ∷ calls_of db J r))
+    → (IsCallDue (calls_of db J r) (Advance now) → BookStandsFor book (map (λ c. c.khz) old.chans.chans) (opening_of db r) (Advance now ∷ calls_of db J r))
     → KeepsRadio db (moment_is now ∷ J) r (record old { book = book })
 advanced db J r now old book kept due stands =
     let same = now_of-calls db J r in
@@ -47,6 +49,34 @@ advanced db J r now old book kept due stands =
       book = stands (omega (arith, same, later), due.1);
     }
 
+-- ---- operations
+
+pub operated : (db : List Domain) (J : Journal) (r : ℕ) (old : Radio) (f : Fact) (i slot : ℕ) (chan : Option ChanDef) (book : Book) → KeepsRadio db J r old → TellsOperation f i chan
+    → call_of db f J r ≡ Some (Operate slot chan) → BookStandsFor book (map (λ c. c.khz) old.chans.chans) (opening_of db r) (Operate slot chan ∷ calls_of db J r)
+    → KeepsRadio db (f ∷ J) r (record old { book = book })
+operated db J r old f i slot None book kept tells call stands =
+    subst (λ g. call_of db g J r ≡ Some (Operate slot None) → KeepsRadio db (g ∷ J) r (record old { book = book })) (sym tells)
+    (λ call'. record {
+      profile = kept.profile;
+      is_profile = kept.is_profile;
+      custom = kept.custom;
+      driver = kept.driver;
+      table = kept.table;
+      records = kept.records;
+      book = rw call' stands;
+    }) call
+operated db J r old f i slot (Some c) book kept tells call stands =
+    subst (λ g. call_of db g J r ≡ Some (Operate slot (Some c)) → KeepsRadio db (g ∷ J) r (record old { book = book })) (sym tells.1)
+    (λ call'. record {
+      profile = kept.profile;
+      is_profile = kept.is_profile;
+      custom = kept.custom;
+      driver = kept.driver;
+      table = kept.table;
+      records = kept.records;
+      book = rw call' stands;
+    }) call
+
 -- what a new moment does to a place
 abbrev pub Advances : ℕ → ℕ → RadioPlace → RadioPlace → Type 0
 Advances now r old new = (db : List Domain) (J : Journal) → KeepsPlace db J r old → MayFollow db J (moment_is now) → KeepsPlace db (moment_is now ∷ J) r new
@@ -54,10 +84,11 @@ Advances now r old new = (db : List Domain) (J : Journal) → KeepsPlace db J r 
 -- ---- hints
 
 pub calls_of-moved : (db : List Domain) (J : Journal) (r : ℕ) (hint : Hinted) → true ≡ not (is_same_region (region_of db (hinted hint ∷ J) r) (region_of db J r))
-    → calls_of db (hinted hint ∷ J) r ≡ RegionChanged ∷ calls_of db J r
+    → calls_of db (hinted hint ∷ J) r ≡ RegionChanged (checks_last_on db (hinted hint ∷ J) r) ∷ calls_of db J r
 calls_of-moved db J r hint moved = by_test (is_same_region (region_of db (hinted hint ∷ J) r) (region_of db J r)) moved
   where
-    by_test : (same : Bool) → true ≡ not same → pushed (if same then None else Some RegionChanged) (calls_of db J r) ≡ RegionChanged ∷ calls_of db J r
+    by_test : (same : Bool) → true ≡ not same → pushed (if same then None else Some (RegionChanged (checks_last_on db (hinted hint ∷ J) r))) (calls_of db J r)
+        ≡ RegionChanged (checks_last_on db (hinted hint ∷ J) r) ∷ calls_of db J r
     by_test true moved = cc
     by_test false moved = refl
 
@@ -65,7 +96,7 @@ pub calls_of-unmoved : (db : List Domain) (J : Journal) (r : ℕ) (hint : Hinted
     → calls_of db (hinted hint ∷ J) r ≡ calls_of db J r
 calls_of-unmoved db J r hint same = by_test (is_same_region (region_of db (hinted hint ∷ J) r) (region_of db J r)) same
   where
-    by_test : (same : Bool) → false ≡ not same → pushed (if same then None else Some RegionChanged) (calls_of db J r) ≡ calls_of db J r
+    by_test : (same : Bool) → false ≡ not same → pushed (if same then None else Some (RegionChanged (checks_last_on db (hinted hint ∷ J) r))) (calls_of db J r) ≡ calls_of db J r
     by_test true same = refl
     by_test false same = cc
 
@@ -73,7 +104,7 @@ pub retuned : (db : List Domain) (J : Journal) (r : ℕ) (hint : Hinted) (old : 
     → KeepsRadio db J r old → driver_code_of (hinted hint ∷ J) r ≡ driver → IsTableOf (applies db (hinted hint ∷ J) r) table
     → chans.profile ≡ old.chans.profile → map (λ c. c.khz) chans.chans ≡ map (λ c. c.khz) old.chans.chans
     → ((ds : List Domain) → IsTableOf ds table → AreRecords ds chans.chans)
-    → BookStandsFor book (map (λ c. c.khz) old.chans.chans) (calls_of db (hinted hint ∷ J) r)
+    → BookStandsFor book (map (λ c. c.khz) old.chans.chans) (opening_of db r) (calls_of db (hinted hint ∷ J) r)
     → KeepsRadio db (hinted hint ∷ J) r (record { custom = old.custom; driver = driver; table = table; chans = chans; book = book })
 retuned db J r hint old driver table chans book kept is_driver is_table profile channels records is_book = record {
   profile = kept.profile ∙ ap (λ p. Some p) (sym profile);
@@ -82,7 +113,7 @@ retuned db J r hint old driver table chans book kept is_driver is_table profile 
   driver = is_driver;
   table = is_table;
   records = records _ is_table;
-  book = subst (λ khz. BookStandsFor book khz (calls_of db (hinted hint ∷ J) r)) (sym channels) is_book;
+  book = subst (λ khz. BookStandsFor book khz (opening_of db r) (calls_of db (hinted hint ∷ J) r)) (sym channels) is_book;
 }
 
 -- ---- hints that the table of hints treats, by what is kept

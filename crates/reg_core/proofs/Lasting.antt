@@ -1,9 +1,12 @@
 -- What may go on may go on after a fact that leaves what decides over it.
-use Rattle.std.proofs.Common.{◌≡◌, ℕ, ◌+◌, ◌≤◌, ◌==◌, false, List, [], ◌∷◌, ◌++◌, Some, IsSome, unwrap_or, arith, refl, sym, subst, ap, ◌∙◌, inl, inr, eq-eqb}
+use Rattle.std.proofs.Common.{◌≡◌, ℕ, ◌+◌, ◌<◌, ◌≤◌, ◌==◌, false, List, [], ◌∷◌, ◌++◌, Some, IsSome, IsTrue, unwrap_or, arith, refl, sym, subst, ap, ◌∙◌, ◌⊎◌, inl, inr, eq-eqb}
 use Rattle.std.proofs.lemmas.Bool.{false≢true}
 use Rattle.std.proofs.lemmas.Option.{same_Some}
 use Rattle.rule_tables.specs.declared.domain.Domain.{Domain}
+use Rattle.chan_def.specs.Covered.{IsCovered}
+use Rattle.chan_def.specs.Kinds.{initiates}
 use Rattle.chan_def.specs.declared.definition.ChanDef.{ChanDef}
+use Rattle.dfs_states.specs.Greatest.{IsGreatest}
 use Rattle.chan_flags.specs.Fits.{IsGranting}
 use Rattle.chan_flags.specs.Profiles.{Abilities}
 use Rattle.chan_flags.specs.Verdicts.{asked, Bars, HasWidth, IsBound, NoneBars}
@@ -14,7 +17,7 @@ use Rattle.reg_journal.specs.Facts.{Fact, Journal, radar_met, check_begun, check
 use Rattle.reg_journal.specs.Granted.{IsPermitted}
 use Rattle.reg_journal.specs.Permits.{asked_by, width_mhz, IsBoundOn}
 use Rattle.reg_journal.specs.Present.{Check, Iface, abilities_of, check_of, is_indoor, no_abilities, now_of, profile_of}
-use Rattle.reg_journal.specs.Radar.{HasCheck, HasRadar, IsKept, IsQuiet, KeepsRegion, Stands}
+use Rattle.reg_journal.specs.Radar.{HasCheck, HasLapsed, HasRadar, IsKept, IsQuiet, IsUse, IsUsed, KeepsRegion, Stands, WasUsedAt}
 use Rattle.reg_journal.specs.Settled.{IsCheckPermitted}
 use Rattle.reg_journal.specs.Sweep.{RegionChangedInCheck}
 use Rattle.reg_core.proofs.Drops.{some_value}
@@ -107,10 +110,74 @@ region_stays db f J newer base r at same keeps newer' g between split = elim (sp
   | inr (older, _, split') ↦ keeps older g between split'
 ]
 
+-- ---- checks that don't lapse
+
+-- no time passes with the fact, or the subchannel is in use after it
+abbrev pub IsHeld : Fact → Journal → ℕ → ℕ → Type 0
+IsHeld f J r s = (now_of (f ∷ J) ≡ now_of J) ⊎ IsUsed (f ∷ J) r s
+
+-- the oldest facts are all of them, or came before the newest
+oldest_cases : (f : Fact) (J newer older : Journal) → f ∷ J ≡ newer ++ older → (f ∷ J ≡ older) ⊎ ((rest : Journal) × (J ≡ rest ++ older))
+oldest_cases f J [] older at = inl at
+oldest_cases f J (x ∷ newer) older at = inr (newer, cc)
+
+used_now : (J : Journal) (r s : ℕ) → IsUsed J r s → WasUsedAt J r s (now_of J)
+used_now J r s used = record { newer = []; older = J; split = refl; used = used; at = refl }
+
+used_later : (f : Fact) (J : Journal) (r s moment : ℕ) → WasUsedAt J r s moment → WasUsedAt (f ∷ J) r s moment
+used_later f J r s moment was = record { newer = f ∷ was.newer; older = was.older; split = ap (λ xs. f ∷ xs) was.split; used = was.used; at = was.at }
+
+use_later : (f : Fact) (J : Journal) (r s end moment : ℕ) → IsUse J r s end moment → IsUse (f ∷ J) r s end moment
+use_later f J r s end moment (inl same) = inl same
+use_later f J r s end moment (inr was) = inr (used_later f J r s moment was)
+
+-- a use that is over is one before the newest fact
+use_before : (f : Fact) (J : Journal) (r s end moment : ℕ) → moment < now_of (f ∷ J) → IsUse (f ∷ J) r s end moment → IsUse J r s end moment
+use_before f J r s end moment over (inl same) = inl same
+use_before f J r s end moment over (inr was) = elim (oldest_cases f J was.newer was.older was.split) [
+  | inl all ↦
+      let at = was.at in
+      let now : now_of (f ∷ J) ≡ now_of was.older = ap now_of all in
+      absurd (omega (arith, at, now, over))
+  | inr before ↦ inr (record { newer = before.0; older = was.older; split = before.1; used = was.used; at = was.at })
+]
+
+-- so a check that has lapsed had lapsed before
+lapsed_before : (f : Fact) (J : Journal) (r s end : ℕ) → IsHeld f J r s → HasLapsed (f ∷ J) r s end → HasLapsed J r s end
+lapsed_before f J r s end held lapsed = elim (oldest_cases f J lapsed.newer lapsed.older lapsed.split) [
+  | inr before ↦ record {
+    newer = before.0;
+    older = lapsed.older;
+    split = before.1;
+    last = lapsed.last;
+    is_last = lapsed.is_last;
+    long_ago = lapsed.long_ago;
+  }
+  | inl all ↦
+      let last : IsGreatest (IsUse (f ∷ J) r s end) lapsed.last = subst (λ xs. IsGreatest (IsUse xs r s end) lapsed.last) (sym all) lapsed.is_last in
+      let long : lapsed.last + 2000 ≤ now_of (f ∷ J) = subst (λ xs. lapsed.last + 2000 ≤ now_of xs) (sym all) lapsed.long_ago in
+      elim held [
+        | inl same ↦ record {
+          newer = [];
+          older = J;
+          split = refl;
+          last = lapsed.last;
+          is_last = record {
+            holds = use_before f J r s end lapsed.last (omega (arith, long)) last.holds;
+            none_above = λ m earlier. last.none_above m (use_later f J r s end m earlier);
+          };
+          long_ago = omega (arith, long, same);
+        }
+        | inr used ↦
+            let past = last.none_above (now_of (f ∷ J)) (inr (used_now (f ∷ J) r s used)) in
+            absurd (omega (arith, long, past))
+      ]
+]
+
 -- a check that stands stays
-pub stands_stays : (db : List Domain) (f : Fact) (J : Journal) (r s end : ℕ) → EachMayFollow db (f ∷ J) → LeavesRadio db f J r → Stands db J r s end
+pub stands_stays : (db : List Domain) (f : Fact) (J : Journal) (r s end : ℕ) → EachMayFollow db (f ∷ J) → LeavesRadio db f J r → IsHeld f J r s → Stands db J r s end
     → Stands db (f ∷ J) r s end
-stands_stays db f J r s end due leaves stands =
+stands_stays db f J r s end due leaves held stands =
     let c = stands.counts in
     let over = stands.over in
     let later = now_later db (f ∷ []) J due in
@@ -130,6 +197,10 @@ stands_stays db f J r s end due leaves stands =
         same_region = region_stays db f J c.newer (check_begun c.iface c.chan c.length ∷ c.older) r c.begun leaves.region c.same_region;
       };
       over = omega (arith, over, later);
+      lasts = elim stands.lasts [
+        | inl etsi ↦ inl (leaves.region ∙ etsi)
+        | inr alive ↦ inr (λ lapsed. alive (lapsed_before f J r s end held lapsed))
+      ];
     }
 
 -- ---- regions
@@ -182,8 +253,8 @@ radar_width_stays : (db : List Domain) (f : Fact) (J : Journal) (r : ℕ) (c : C
 radar_width_stays db f J r c leaves has = subst (λ (a : Abilities). width_mhz c ≤ a.radar_mhz) (sym (abilities_stay db f J r leaves)) has
 
 pub permitted_stays : (db : List Domain) (f : Fact) (J : Journal) (x : Iface) (c : ChanDef) (power : ℕ) → EachMayFollow db (f ∷ J) → LeavesRadio db f J x.radio
-    → IsPermitted db J x c power → IsPermitted db (f ∷ J) x c power
-permitted_stays db f J x c power due leaves may = record {
+    → (IsTrue (initiates x.kind) → (s : ℕ) → IsCovered c s → IsHeld f J x.radio s) → IsPermitted db J x c power → IsPermitted db (f ∷ J) x c power
+permitted_stays db f J x c power due leaves held may = record {
   fits = (
     may.fits.0,
     subst (λ q. IsGranting (applies db (f ∷ J) x.radio) q power may.fits.0) (sym (asked_stays db f J x c leaves))
@@ -195,7 +266,7 @@ permitted_stays db f J x c power due leaves may = record {
       record {
         quiet = quiet_stays db f J x.radio s due leaves clear.quiet;
         end = clear.end;
-        stands = stands_stays db f J x.radio s clear.end due leaves clear.stands;
+        stands = stands_stays db f J x.radio s clear.end due leaves (held sends s covered) clear.stands;
       };
 }
 

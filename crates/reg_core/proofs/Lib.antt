@@ -47,7 +47,9 @@ pub mod Driven
 pub mod KeepUp
 pub mod Broadcast
 pub mod Operations
+pub mod Lapsing
 pub mod Lasting
+pub mod LastingChecks
 pub mod Settling
 pub mod StartReasons
 pub mod StartsDone
@@ -56,3 +58,5 @@ pub mod InUse
 pub mod HintRefusals
 pub mod StandsHinted
 pub mod Declining
+pub mod Uses
+pub mod Operated

@@ -2,7 +2,9 @@
 use Rattle.std.proofs.Common.{◌≡◌, ℕ, Bool, List, [], ◌∷◌, ◌++◌, map, Option, Some, None, unwrap_or, if◌then◌else◌, refl, sym, subst, ap, ◌∙◌}
 use Rattle.std.proofs.lemmas.Bool.{eq-eqb}
 use Rattle.std.specs.Option.{option_map, option_to_list}
+use Rattle.rule_tables.specs.Regions.{is_same_region}
 use Rattle.rule_tables.specs.declared.code.Alpha2.{Alpha2}
+use Rattle.rule_tables.specs.declared.code.Region.TheVariants.{Etsi}
 use Rattle.rule_tables.specs.declared.domain.Domain.{Domain}
 use Rattle.rule_intersect.specs.Tables.{IsTableOf}
 use Rattle.chan_flags.specs.Profiles.{Abilities, IsProfile}
@@ -13,14 +15,15 @@ use Rattle.dfs_states.specs.StandsFor.{BookStandsFor}
 use Rattle.dfs_states.proofs.Blank.{blank_alike}
 use Rattle.reg_hints.specs.Table.{State}
 use Rattle.rule_tables.specs.World.{custom_domain}
-use Rattle.reg_journal.specs.Applicable.{applies, custom_domains, driver_code_of, hints_of, is_self_managed}
+use Rattle.reg_journal.specs.Applicable.{applies, custom_domains, driver_code_of, hints_of, is_self_managed, region_of}
 use Rattle.reg_journal.specs.Due.{EachMayFollow}
 use Rattle.reg_journal.specs.Facts.{Journal, radio_added}
 use Rattle.reg_journal.specs.Present.{no_abilities, now_of, profile_of}
-use Rattle.reg_core.specs.Calls.{call_of, calls_of}
+use Rattle.reg_core.specs.Calls.{call_of, calls_of, opening_of}
 use Rattle.reg_core.specs.Kept.{KeepsRadio}
-use Rattle.reg_core.specs.inner.Lists.{applies_by}
+use Rattle.reg_core.specs.inner.Lists.{applies_by, region_by}
 use Rattle.reg_core.specs.declared.radio.Radio.{Radio}
+use Rattle.reg_core.proofs.LastingChecks.{lasts_told}
 use Rattle.reg_core.proofs.Moments.{now_of-calls}
 use Rattle.reg_core.proofs.Newcomers.{AreBlank-pushed, AreDue-pushed, blank_calls, custom_rules_of-unused, due_calls, quiet_call}
 
@@ -44,11 +47,12 @@ blank_moment moment call has = in_one has.newer has.at
 
 pub added : (db : List Domain) (J : Journal) (r : ℕ) (profile : Abilities) (radio : Radio) → EachMayFollow db (radio_added r profile ∷ J) → driver_code_of J r ≡ None
     → radio.chans.profile ≡ profile → radio.custom ≡ None → radio.driver ≡ None
+    → (lasts : Bool) → lasts ≡ is_same_region (region_by db (hints_of J) profile.self_managed None) Etsi
     → IsTableOf (applies_by db (hints_of J) profile.self_managed [] None) radio.table
     → ((ds : List Domain) → IsTableOf ds radio.table → AreRecords ds radio.chans.chans)
-    → BookStandsFor radio.book (map (λ c. c.khz) radio.chans.chans) (Advance (now_of J) ∷ [])
+    → BookStandsFor radio.book (map (λ c. c.khz) radio.chans.chans) lasts (Advance (now_of J) ∷ [])
     → KeepsRadio db (radio_added r profile ∷ J) r radio
-added db J r profile radio due no_driver is_profile no_custom no_driver' is_table records book =
+added db J r profile radio due no_driver is_profile no_custom no_driver' lasts lasting is_table records book =
     let unused = due.0.1 in
     let no_rules = custom_rules_of-unused db J r due.1 unused in
     let custom : custom_domains J r ≡ [] = ap (λ o. option_to_list (option_map custom_domain o)) no_rules in
@@ -56,6 +60,8 @@ added db J r profile radio due no_driver is_profile no_custom no_driver' is_tabl
     ap (λ o. (unwrap_or o no_abilities).self_managed) (profile_of-added J r profile) in
     let same : applies db (radio_added r profile ∷ J) r ≡ applies_by db (hints_of J) profile.self_managed [] None =
     applies_by-same db (hints_of J) _ _ _ _ _ _ self_managed custom no_driver in
+    let region : region_of db (radio_added r profile ∷ J) r ≡ region_by db (hints_of J) profile.self_managed None =
+    ap (λ s. region_by db (hints_of J) s (driver_code_of J r)) self_managed ∙ ap (λ d. region_by db (hints_of J) profile.self_managed d) no_driver in
     let table = subst (λ ds. IsTableOf ds radio.table) (sym same) is_table in
     let quiet = quiet_call db (radio_added r profile) J r due.1 unused due.0 in
     record {
@@ -65,8 +71,8 @@ added db J r profile radio due no_driver is_profile no_custom no_driver' is_tabl
       driver = no_driver ∙ sym no_driver';
       table = table;
       records = records _ table;
-      book = blank_alike radio.book (map (λ c. c.khz) radio.chans.chans) (Advance (now_of J) ∷ []) (calls_of db (radio_added r profile ∷ J) r) (blank_moment (now_of J))
+      book = blank_alike radio.book (map (λ c. c.khz) radio.chans.chans) lasts (opening_of db r) (Advance (now_of J) ∷ []) (calls_of db (radio_added r profile ∷ J) r) (blank_moment (now_of J))
           (AreBlank-pushed (calls_of db J r) (call_of db (radio_added r profile) J r) quiet (blank_calls db J r due.1 unused))
           (AreDue-pushed (calls_of db J r) (call_of db (radio_added r profile) J r) quiet (due_calls db J r due.1 unused))
-          (sym (now_of-calls db (radio_added r profile ∷ J) r)) book;
+          (sym (now_of-calls db (radio_added r profile ∷ J) r)) (lasting ∙ ap (λ x. is_same_region x Etsi) (sym region) ∙ sym (lasts_told db (radio_added r profile ∷ J) r)) book;
     }

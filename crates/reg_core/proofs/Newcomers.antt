@@ -1,11 +1,11 @@
 -- A radio that was never there has no rules, and its book no calls but moments and changes of the region.
-use Rattle.std.proofs.Common.{◌≡◌, ℕ, ◌==◌, Bool, true, false, List, [], ◌∷◌, ◌++◌, length, Option, Some, None, IsSome, IfSome, if◌then◌else◌, arith, refl, sym, subst, inl, inr}
+use Rattle.std.proofs.Common.{◌≡◌, ℕ, ◌==◌, Bool, true, false, ◌&&◌, List, [], ◌∷◌, ◌++◌, length, Option, Some, None, IsSome, IfSome, if◌then◌else◌, arith, refl, sym, subst, inl, inr}
 use Rattle.std.proofs.lemmas.Bool.{cases_Bool, eqb-true, or_parts}
 use Rattle.std.specs.Option.{option_map_or}
 use Rattle.rule_tables.specs.declared.domain.Domain.{Domain}
-use Rattle.dfs_states.specs.Calls.{Call, Radar, Begin, DropCheck, RegionChanged}
+use Rattle.dfs_states.specs.Calls.{Call, Radar, Begin, DropCheck, Operate, RegionChanged}
 use Rattle.dfs_states.specs.Meaning.{IsBlank, AreBlank, MayBeCalled as IsCallDue, EachMayBeCalled as AreCallsDue}
-use Rattle.reg_journal.specs.Facts.{Fact, Journal, moment_is, radio_added, radio_removed, rules_are, hinted, radar_met, made, check_begun, check_dropped}
+use Rattle.reg_journal.specs.Facts.{Fact, Journal, moment_is, radio_added, radio_removed, rules_are, hinted, radar_met, made, started, stopped, check_begun, check_dropped}
 use Rattle.reg_hints.specs.Table.{Treated, Own}
 use Rattle.reg_hints.specs.declared.hint.Hint.TheVariants.{User, Driver, Element}
 use Rattle.rule_tables.specs.Regions.{is_same_region}
@@ -13,7 +13,7 @@ use Rattle.reg_journal.specs.Applicable.{driver_code_of, region_of}
 use Rattle.reg_journal.specs.Due.{MayFollow, EachMayFollow}
 use Rattle.reg_journal.specs.OnAir.{is_on}
 use Rattle.reg_journal.specs.Present.{is_used, profile_of, custom_rules_of, radio_of}
-use Rattle.reg_core.specs.Calls.{call_of, calls_of, pushed}
+use Rattle.reg_core.specs.Calls.{call_of, calls_of, checks_last_on, pushed, sends_first}
 use Rattle.reg_core.specs.Slots.{slot_of}
 use Rattle.reg_core.proofs.Moments.{now_of-calls}
 
@@ -89,9 +89,14 @@ never : (calls : List Call) (call : Call) (comes : Bool) → comes ≡ false →
 never calls call true none = cc
 never calls call false none = tt
 
-region_quiet : (calls : List Call) (stays : Bool) → IsQuietCall calls (if stays then None else Some RegionChanged)
-region_quiet calls true = tt
-region_quiet calls false = (tt, tt)
+region_quiet : (calls : List Call) (stays lasts : Bool) → IsQuietCall calls (if stays then None else Some (RegionChanged lasts))
+region_quiet calls true lasts = tt
+region_quiet calls false lasts = (tt, tt)
+
+-- an interface that isn't on the radio tells no operation
+no_operation : (on sends : Bool) → on ≡ false → (on && sends) ≡ false
+no_operation true sends off = cc
+no_operation false sends off = refl
 
 pub quiet_call : (db : List Domain) (f : Fact) (J : Journal) (r : ℕ) → EachMayFollow db J → is_used J r ≡ false → MayFollow db J f → IsQuietCall (calls_of db J r) (call_of db f J r)
 quiet_call db (moment_is moment) J r are unused due =
@@ -102,10 +107,14 @@ quiet_call db (radar_met q chan) J r are unused due = never (calls_of db J r) (R
 quiet_call db (check_begun i chan length) J r are unused due =
     never (calls_of db J r) (Begin (slot_of J i) chan length) (is_on J i r) (is_on-unused db J i r are unused)
 quiet_call db (check_dropped i) J r are unused due = never (calls_of db J r) (DropCheck (slot_of J i)) (is_on J i r) (is_on-unused db J i r are unused)
-quiet_call db (hinted hint) J r are unused due = region_quiet (calls_of db J r) (is_same_region (region_of db (hinted hint ∷ J) r) (region_of db J r))
+quiet_call db (started i chan power) J r are unused due =
+    never (calls_of db J r) (Operate (slot_of J i) (Some chan)) (is_on J i r && sends_first J i) (no_operation (is_on J i r) (sends_first J i) (is_on-unused db J i r are unused))
+quiet_call db (stopped i) J r are unused due =
+    never (calls_of db J r) (Operate (slot_of J i) None) (is_on J i r && sends_first J i) (no_operation (is_on J i r) (sends_first J i) (is_on-unused db J i r are unused))
+quiet_call db (hinted hint) J r are unused due = region_quiet (calls_of db J r) (is_same_region (region_of db (hinted hint ∷ J) r) (region_of db J r)) (checks_last_on db (hinted hint ∷ J) r)
 quiet_call db (radio_added q profile) J r are unused due =
-    region_quiet (calls_of db J r) (is_same_region (region_of db (radio_added q profile ∷ J) r) (region_of db J r))
-quiet_call db (radio_removed q) J r are unused due = region_quiet (calls_of db J r) (is_same_region (region_of db (radio_removed q ∷ J) r) (region_of db J r))
+    region_quiet (calls_of db J r) (is_same_region (region_of db (radio_added q profile ∷ J) r) (region_of db J r)) (checks_last_on db (radio_added q profile ∷ J) r)
+quiet_call db (radio_removed q) J r are unused due = region_quiet (calls_of db J r) (is_same_region (region_of db (radio_removed q ∷ J) r) (region_of db J r)) (checks_last_on db (radio_removed q ∷ J) r)
 quiet_call db f J r are unused due = tt
 
 used_before : (f : Fact) (J : Journal) (r : ℕ) → is_used (f ∷ J) r ≡ false → is_used J r ≡ false

@@ -6,7 +6,7 @@ use Rattle.dfs_states.specs.Calls.{Call, RegionChanged}
 use Rattle.reg_journal.specs.Facts.{Fact, Journal}
 use Rattle.rule_tables.specs.Regions.{is_same_region}
 use Rattle.reg_journal.specs.Applicable.{region_of}
-use Rattle.reg_core.specs.Calls.{region_call, call_of, pushed, calls_of}
+use Rattle.reg_core.specs.Calls.{checks_last_on, region_call, call_of, pushed, calls_of}
 use Rattle.reg_core.proofs.Splits.{split_cases, not_split}
 
 -- the calls that newer facts are for the radio's book, after the older ones
@@ -20,10 +20,10 @@ pub where_pushed : (P : List Call → Type 0) (test : Bool) (call : Call) (calls
 where_pushed P test call calls told same = cond_both test (Some call) None (λ c. P (pushed c calls)) told (λ is. same)
 
 -- and after a fact that may change the region
-pub region_pushed : (P : List Call → Type 0) (db : List Domain) (f : Fact) (J : Journal) (r : ℕ) (calls : List Call) → P (RegionChanged ∷ calls) → P calls
+pub region_pushed : (P : List Call → Type 0) (db : List Domain) (f : Fact) (J : Journal) (r : ℕ) (calls : List Call) → P (RegionChanged (checks_last_on db (f ∷ J) r) ∷ calls) → P calls
     → P (pushed (region_call db f J r) calls)
 region_pushed P db f J r calls changed same =
-    cond_both (is_same_region (region_of db (f ∷ J) r) (region_of db J r)) None (Some RegionChanged) (λ c. P (pushed c calls)) (λ is. same) (λ is. changed)
+    cond_both (is_same_region (region_of db (f ∷ J) r) (region_of db J r)) None (Some (RegionChanged (checks_last_on db (f ∷ J) r))) (λ c. P (pushed c calls)) (λ is. same) (λ is. changed)
 
 -- a call pushed on a list is pushed on its front part
 pushed-append : (call : Option Call) (calls more : List Call) → pushed call (calls ++ more) ≡ pushed call calls ++ more
@@ -141,3 +141,26 @@ from_calls db J r calls call before split =
       after = over.after ∙ ap (λ xs. calls_over db over.newer (over.fact ∷ xs) r) (append-nil over.between);
       earlier = over.before ∙ over-nil db over.between r;
     }
+
+-- each list of the oldest calls is that of the oldest facts
+pub record AreOldest (db : List Domain) (J : Journal) (r : ℕ) (calls : List Call) : Type 0 where
+  pub newer : Journal
+  pub older : Journal
+  pub at : J ≡ newer ++ older
+  pub are : calls_of db older r ≡ calls
+
+pub oldest_calls : (db : List Domain) (J : Journal) (r : ℕ) (newer older : List Call) → calls_of db J r ≡ newer ++ older → AreOldest db J r older
+oldest_calls db [] r [] older at = record { newer = []; older = []; at = refl; are = at }
+oldest_calls db [] r (c ∷ newer) older at = cc
+oldest_calls db (f ∷ J) r newer older at = by (call_of db f J r) refl newer at (λ newer' at'. oldest_calls db J r newer' older at')
+  where
+    deeper : AreOldest db J r older → AreOldest db (f ∷ J) r older
+    deeper are = record { newer = f ∷ are.newer; older = are.older; at = ap (λ xs. f ∷ xs) are.at; are = are.are }
+
+    by : (own : Option Call) → call_of db f J r ≡ own → (newer : List Call) → calls_of db (f ∷ J) r ≡ newer ++ older
+        → ((newer' : List Call) → calls_of db J r ≡ newer' ++ older → AreOldest db J r older) → AreOldest db (f ∷ J) r older
+    by own is [] at rest = record { newer = []; older = f ∷ J; at = refl; are = at }
+    by None none (c ∷ newer) at rest = deeper (rest (c ∷ newer) (rw none at at))
+    by (Some own) is (c ∷ newer) at rest =
+        let at' : own ∷ calls_of db J r ≡ c ∷ (newer ++ older) = rw is at at in
+        deeper (rest newer cc)

@@ -13,7 +13,7 @@ use Rattle.reg_journal.specs.Facts.{Journal}
 use Rattle.reg_journal.specs.Granted.{IsClear}
 use Rattle.reg_journal.specs.Permits.{IsBoundOn}
 use Rattle.reg_journal.specs.Radar.{IsQuiet, IsState}
-use Rattle.reg_core.specs.Calls.{calls_of}
+use Rattle.reg_core.specs.Calls.{calls_of, opening_of}
 use Rattle.reg_core.specs.inner.Demands.{FailsDemand, HasRules, MeetsDemand}
 use Rattle.reg_core.specs.declared.radar.Demand.{Demand}
 use Rattle.reg_core.specs.declared.radio.Radio.{Radio}
@@ -52,7 +52,7 @@ centre_listed (c ∷ chans) s bound = elim (cases_eq c.khz s) [
 
 -- so the book tells its state
 pub state_told : (db : List Domain) (J : Journal) (r : ℕ) (radio : Radio) (c : ChanDef) (s : ℕ) (state : Dfs) → HasRules db J r radio c → IsBoundBy radio.chans.chans s
-    → IsBookAnswer (map (λ (c : Chan). c.khz) radio.chans.chans) (calls_of db J r) s state → IsState db J r s state
+    → IsBookAnswer (map (λ (c : Chan). c.khz) radio.chans.chans) (opening_of db r) (calls_of db J r) s state → IsState db J r s state
 state_told db J r radio c s state rules bound answer = (state_alike db J r s state rules.due).1 (answer.of_channel (centre_listed radio.chans.chans s bound))
 
 -- it has to be checked, and so fails where it doesn't meet the demand

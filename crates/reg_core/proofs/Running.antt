@@ -1,16 +1,16 @@
 -- The running check of an interface is that of its slot.
-use Rattle.std.proofs.Common.{◌≡◌, ℕ, ◌+◌, ◌==◌, List, [], ◌∷◌, ◌++◌, Some, None, arith, refl, sym, ap, subst, ◌∙◌, eq-eqb}
+use Rattle.std.proofs.Common.{◌≡◌, ℕ, ◌+◌, ◌==◌, ◌&&◌, List, [], ◌∷◌, ◌++◌, Some, None, arith, refl, sym, ap, subst, ◌∙◌, eq-eqb}
 use Rattle.std.proofs.lemmas.Option.{none-some}
 use Rattle.rule_tables.specs.declared.domain.Domain.{Domain}
 use Rattle.chan_def.specs.declared.definition.ChanDef.{ChanDef}
-use Rattle.dfs_states.specs.Calls.{Call, Radar, Begin, DropCheck, moment_of as now_of_calls, HasCall, HasBegin}
+use Rattle.dfs_states.specs.Calls.{Call, Radar, Begin, DropCheck, Operate, moment_of as now_of_calls, HasCall, HasBegin}
 use Rattle.dfs_states.specs.Meaning.{Runs, IsFreeSlot}
-use Rattle.reg_journal.specs.Facts.{Journal, moment_is, radio_added, radio_removed, hinted, radar_met, check_begun, check_dropped}
+use Rattle.reg_journal.specs.Facts.{Journal, moment_is, radio_added, radio_removed, hinted, radar_met, started, stopped, check_begun, check_dropped}
 use Rattle.reg_journal.specs.OnAir.{is_on}
 use Rattle.reg_journal.specs.Present.{Check, now_of, radio_of, check_of, last_check_of}
 use Rattle.reg_journal.specs.Due.{EachMayFollow}
 use Rattle.reg_journal.specs.Radar.{HasCheck}
-use Rattle.reg_core.specs.Calls.{calls_of}
+use Rattle.reg_core.specs.Calls.{calls_of, sends_first}
 use Rattle.reg_core.specs.Slots.{slot_of}
 use Rattle.reg_core.proofs.Apart.{slots_apart}
 use Rattle.reg_core.proofs.Begins.{home_back, radio_begun, begin_of_check, began_again}
@@ -35,6 +35,10 @@ calls-now db (check_begun i chan length ∷ J) r =
     where_pushed (IsNow J) (is_on J i r) (Begin (slot_of J i) chan length) (calls_of db J r) (λ is. calls-now db J r) (calls-now db J r)
 calls-now db (check_dropped i ∷ J) r =
     where_pushed (IsNow J) (is_on J i r) (DropCheck (slot_of J i)) (calls_of db J r) (λ is. calls-now db J r) (calls-now db J r)
+calls-now db (started i chan power ∷ J) r =
+    where_pushed (IsNow J) (is_on J i r && sends_first J i) (Operate (slot_of J i) (Some chan)) (calls_of db J r) (λ is. calls-now db J r) (calls-now db J r)
+calls-now db (stopped i ∷ J) r =
+    where_pushed (IsNow J) (is_on J i r && sends_first J i) (Operate (slot_of J i) None) (calls_of db J r) (λ is. calls-now db J r) (calls-now db J r)
 calls-now db (hinted hint ∷ J) r = region_pushed (IsNow J) db (hinted hint) J r (calls_of db J r) (calls-now db J r) (calls-now db J r)
 calls-now db (radio_added q profile ∷ J) r =
     region_pushed (IsNow J) db (radio_added q profile) J r (calls_of db J r) (calls-now db J r) (calls-now db J r)

@@ -78,11 +78,11 @@ stands_after_making db J core name r kind interfaces s due grown = record {
       ∙ sym (interfaces_of-made db J name r kind due.1);
 }
 
-pub stands_after_start : (db : List Domain) (J : Journal) (core : Core) (x : Iface) (c : ChanDef) (power : ℕ) (interfaces : List Interface) → StandsFor db core J
-    → EachMayFollow db (started x.index c power ∷ J) → Contains (ifaces_of J) x → IsPermitted db J x c power
+pub stands_after_start : (db : List Domain) (J : Journal) (core : Core) (x : Iface) (c : ChanDef) (power : ℕ) (interfaces : List Interface) (radios : List RadioPlace) → StandsFor db core J
+    → EachMayFollow db (started x.index c power ∷ J) → KeepsRadios db (started x.index c power ∷ J) radios → Contains (ifaces_of J) x → IsPermitted db J x c power
     → interfaces ≡ map (with_operation x.index (Some (record { chan = c; power_mbm = power }))) core.interfaces
-    → StandsFor db (record core { interfaces = interfaces }) (started x.index c power ∷ J)
-stands_after_start db J core x c power interfaces s due there may changed = record {
+    → StandsFor db (record core { interfaces = interfaces; radios = radios }) (started x.index c power ∷ J)
+stands_after_start db J core x c power interfaces radios s due kept there may changed = record {
   due = due;
   settled = settled_after_started db J x x.index c power due (indexed_listed db J x due.1 there) may s.settled;
   domains = s.domains;
@@ -91,13 +91,14 @@ stands_after_start db J core x c power interfaces s due there may changed = reco
   hints = s.hints;
   made = s.made;
   global = s.global;
-  radios = KeepsRadios-spared db J (started x.index c power) core.radios (λ q. tt) s.radios;
+  radios = kept;
   interfaces = changed ∙ ap (map (with_operation x.index (Some (record { chan = c; power_mbm = power })))) s.interfaces ∙ interfaces_of-started J x.index c power;
 }
 
-pub stands_after_stop : (db : List Domain) (J : Journal) (core : Core) (i : ℕ) (interfaces : List Interface) → StandsFor db core J → EachMayFollow db (stopped i ∷ J)
-    → interfaces ≡ map (with_operation i None) core.interfaces → StandsFor db (record core { interfaces = interfaces }) (stopped i ∷ J)
-stands_after_stop db J core i interfaces s due changed = record {
+pub stands_after_stop : (db : List Domain) (J : Journal) (core : Core) (i : ℕ) (interfaces : List Interface) (radios : List RadioPlace) → StandsFor db core J
+    → EachMayFollow db (stopped i ∷ J) → KeepsRadios db (stopped i ∷ J) radios → interfaces ≡ map (with_operation i None) core.interfaces
+    → StandsFor db (record core { interfaces = interfaces; radios = radios }) (stopped i ∷ J)
+stands_after_stop db J core i interfaces radios s due kept changed = record {
   due = due;
   settled = settled_after_stopped db J i due s.settled;
   domains = s.domains;
@@ -106,7 +107,7 @@ stands_after_stop db J core i interfaces s due changed = record {
   hints = s.hints;
   made = s.made;
   global = s.global;
-  radios = KeepsRadios-spared db J (stopped i) core.radios (λ q. tt) s.radios;
+  radios = kept;
   interfaces = changed ∙ ap (map (with_operation i None)) s.interfaces ∙ interfaces_of-stopped J i;
 }
 

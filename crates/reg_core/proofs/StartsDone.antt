@@ -1,5 +1,5 @@
 -- What an operation that starts, or doesn't, or stops leaves.
-use Rattle.std.proofs.Common.{◌≡◌, ◌^◌, ◌<◌, ◌≤◌, ℕ, arith, unwrap_or, List, ◌∷◌, Option, Some, None, map, refl, subst, ap, ◌∙◌, inl}
+use Rattle.std.proofs.Common.{◌≡◌, ◌^◌, ◌<◌, ◌≤◌, ℕ, arith, unwrap_or, Contains, List, ◌∷◌, Option, Some, None, map, refl, subst, ap, ◌∙◌, inl}
 use Rattle.rule_tables.specs.declared.domain.Domain.{Domain}
 use Rattle.chan_def.specs.declared.definition.ChanDef.{ChanDef}
 use Rattle.chan_def.specs.declared.kind.Kind.{Kind}
@@ -11,17 +11,18 @@ use Rattle.reg_journal.specs.Due.{EachMayFollow}
 use Rattle.reg_journal.specs.Granted.{IsGranted}
 use Rattle.reg_journal.specs.Facts.{Journal, started, stopped}
 use Rattle.reg_journal.specs.OnAir.{entry}
-use Rattle.reg_journal.specs.Present.{Iface, abilities_of, no_abilities}
+use Rattle.reg_journal.specs.Present.{Iface, abilities_of, ifaces_of, no_abilities}
 use Rattle.reg_journal.proofs.Granting.{power_of_granted}
 use Rattle.reg_core.specs.DriverRows.{AreDriven, driver_at}
 use Rattle.reg_core.specs.inner.Judging.{IsJudged}
-use Rattle.reg_core.specs.Kept.{KeepsRadio, StandsFor, kept}
+use Rattle.reg_core.specs.Kept.{KeepsRadio, KeepsRadios, StandsFor, kept}
 use Rattle.reg_core.specs.inner.Interfaces.{with_operation}
 use Rattle.reg_core.specs.inner.Starting.{Falls, HasStart, HasStop, HasRestingIface, Starts, Stops}
 use Rattle.reg_core.specs.Told.{DriverFails, HasRoom, OneGoes, DriverTakes}
 use Rattle.reg_core.specs.declared.core_state.Core.{Core}
 use Rattle.reg_core.specs.declared.interface.Interface.{Interface}
 use Rattle.reg_core.specs.declared.radio.Radio.{Radio}
+use Rattle.reg_core.specs.declared.radio.RadioPlace.{RadioPlace}
 use Rattle.reg_core.proofs.Listed.{indexed_listed, named_listed}
 use Rattle.reg_core.proofs.Room.{room_for}
 use Rattle.reg_core.proofs.Stands.{stands_after_start, stands_after_stop}
@@ -76,11 +77,12 @@ start_has_room db J name kind c interface power row due driven has =
     (named_listed J name has.iface has.is_named)
 
 pub starts_done : (db : List Domain) (J : Journal) (name : List ℕ) (kind : Kind) (c : ChanDef) (interface : Interface) (power : ℕ) (core : Core) (interfaces : List Interface)
-    (row row' : List (Option Seen)) → StandsFor db core J → HasStart db J name kind c interface power
+    (radios : List RadioPlace) (row row' : List (Option Seen)) → StandsFor db core J → HasStart db J name kind c interface power
+    → ((x : Iface) → interface ≡ kept J x → Contains (ifaces_of J) x → EachMayFollow db (started x.index c power ∷ J) → KeepsRadios db (started x.index c power ∷ J) radios)
     → interfaces ≡ map (with_operation interface.index (Some (record { chan = c; power_mbm = power }))) core.interfaces
     → OneGoes interface.radio (DriverTakes (put_on_air (entry interface.index c power))) row row'
-    → Starts db J name kind c power (record core { interfaces = interfaces }) row row'
-starts_done db J name kind c interface power core interfaces row row' s has changed told =
+    → Starts db J name kind c power (record core { interfaces = interfaces; radios = radios }) row row'
+starts_done db J name kind c interface power core interfaces radios row row' s has operated changed told =
     let x = has.iface in
     let there = named_listed J name x has.is_named in
     let due : EachMayFollow db (started x.index c power ∷ J) =
@@ -91,7 +93,7 @@ starts_done db J name kind c interface power core interfaces row row' s has chan
       free = start_free db J name kind c interface power has;
       granted = has.granted;
       power_is = power_of_granted db J x c power has.granted;
-      stands = stands_after_start db J core x c power interfaces s due there (has.granted).permitted
+      stands = stands_after_start db J core x c power interfaces radios s due (operated x has.interface_is there due) there (has.granted).permitted
           (changed ∙ ap (λ (p : Interface). map (with_operation p.index (Some (record { chan = c; power_mbm = power }))) core.interfaces) has.interface_is);
       told = subst (λ (p : Interface). OneGoes p.radio (DriverTakes (put_on_air (entry p.index c power))) row row') has.interface_is told;
     }
@@ -108,16 +110,17 @@ falls_done db J name kind c interface power core row row' has told = record {
 
 -- ---- stops
 
-pub stops_done : (db : List Domain) (J : Journal) (name : List ℕ) (kind : Kind) (interface : Interface) (core : Core) (interfaces : List Interface) (row row' : List (Option Seen))
-    → StandsFor db core J → HasStop J name kind interface → interfaces ≡ map (with_operation interface.index None) core.interfaces
-    → OneGoes interface.radio (DriverTakes (taken_off interface.index)) row row' → Stops db J name kind (record core { interfaces = interfaces }) row row'
-stops_done db J name kind interface core interfaces row row' s has changed told =
+pub stops_done : (db : List Domain) (J : Journal) (name : List ℕ) (kind : Kind) (interface : Interface) (core : Core) (interfaces : List Interface) (radios : List RadioPlace)
+    (row row' : List (Option Seen)) → StandsFor db core J → HasStop J name kind interface
+    → ((x : Iface) → interface ≡ kept J x → Contains (ifaces_of J) x → EachMayFollow db (stopped x.index ∷ J) → KeepsRadios db (stopped x.index ∷ J) radios) → interfaces ≡ map (with_operation interface.index None) core.interfaces
+    → OneGoes interface.radio (DriverTakes (taken_off interface.index)) row row' → Stops db J name kind (record core { interfaces = interfaces; radios = radios }) row row'
+stops_done db J name kind interface core interfaces radios row row' s has operated changed told =
     let x = has.iface in
     let due : EachMayFollow db (stopped x.index ∷ J) = (rw has.operates refl, s.due) in
     record {
       iface = x;
       is_named = has.is_named;
       free = stop_free J name kind x has.operation has.is_named has.right_kind has.operates;
-      stands = stands_after_stop db J core x.index interfaces s due (changed ∙ ap (λ (p : Interface). map (with_operation p.index None) core.interfaces) has.interface_is);
+      stands = stands_after_stop db J core x.index interfaces radios s due (operated x has.interface_is (named_listed J name x has.is_named) due) (changed ∙ ap (λ (p : Interface). map (with_operation p.index None) core.interfaces) has.interface_is);
       told = subst (λ (p : Interface). OneGoes p.radio (DriverTakes (taken_off p.index)) row row') has.interface_is told;
     }

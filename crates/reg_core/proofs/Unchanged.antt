@@ -1,5 +1,5 @@
 -- A fact that says nothing of a radio leaves it as it is kept.
-use Rattle.std.proofs.Common.{◌≡◌, ℕ, ◌<◌, ◌==◌, ◌||◌, Bool, true, false, List, ◌∷◌, length, get_or, map, Option, Some, None, unwrap_or, if◌then◌else◌, refl, sym, subst, ap, ◌∙◌, inl, inr, eq-eqb}
+use Rattle.std.proofs.Common.{◌≡◌, ℕ, ◌<◌, ◌==◌, ◌||◌, ◌&&◌, Bool, true, false, List, ◌∷◌, length, get_or, map, Option, Some, None, unwrap_or, if◌then◌else◌, refl, sym, subst, ap, ◌∙◌, inl, inr, eq-eqb}
 use Rattle.std.proofs.Math.ListN.{set}
 use Rattle.std.proofs.lemmas.Bool.{cases_Bool, eqb-true}
 use Rattle.std.specs.Option.{option_map, option_to_list}
@@ -10,17 +10,17 @@ use Rattle.rule_tables.specs.declared.domain.Domain.{Domain}
 use Rattle.chan_flags.specs.Profiles.{Abilities}
 use Rattle.chan_flags.specs.Records.{AreRecords}
 use Rattle.rule_intersect.specs.Tables.{IsTableOf}
-use Rattle.dfs_states.specs.Calls.{Call, Radar, Begin, DropCheck, RegionChanged}
+use Rattle.dfs_states.specs.Calls.{Call, Radar, Begin, DropCheck, Operate, RegionChanged}
 use Rattle.dfs_states.specs.StandsFor.{BookStandsFor}
 use Rattle.reg_hints.specs.Table.{Own, Treated}
 use Rattle.rule_tables.specs.declared.code.Alpha2.{Alpha2}
-use Rattle.reg_journal.specs.Facts.{Fact, Journal, moment_is, radio_added, radio_removed, rules_are, hinted, radar_met, check_begun, check_dropped}
+use Rattle.reg_journal.specs.Facts.{Fact, Journal, moment_is, radio_added, radio_removed, rules_are, hinted, radar_met, started, stopped, check_begun, check_dropped}
 use Rattle.rule_tables.specs.World.{custom_domain}
 use Rattle.rule_tables.specs.Regions.{is_same_region}
 use Rattle.reg_journal.specs.Applicable.{applies, custom_domains, driver_code_of, hints_of, is_self_managed, region_of}
 use Rattle.reg_journal.specs.OnAir.{is_on}
 use Rattle.reg_journal.specs.Present.{custom_rules_of, is_used, no_abilities, profile_of}
-use Rattle.reg_core.specs.Calls.{calls_of, pushed}
+use Rattle.reg_core.specs.Calls.{calls_of, checks_last_on, opening_of, pushed, sends_first}
 use Rattle.reg_core.specs.Kept.{KeepsRadio, KeepsRadios, KeepsPlace}
 use Rattle.reg_core.specs.inner.Lists.{applies_by, region_by}
 use Rattle.reg_core.specs.Slots.{slot_of}
@@ -38,6 +38,8 @@ SparesRadio J r (radio_added q profile) = (r == q) ≡ false
 SparesRadio J r (radio_removed q) = (r == q) ≡ false
 SparesRadio J r (rules_are q rules) = (r == q) ≡ false
 SparesRadio J r (radar_met q chan) = (r == q) ≡ false
+SparesRadio J r (started i chan power) = (is_on J i r && sends_first J i) ≡ false
+SparesRadio J r (stopped i) = (is_on J i r && sends_first J i) ≡ false
 SparesRadio J r (check_begun i chan length) = is_on J i r ≡ false
 SparesRadio J r (check_dropped i) = is_on J i r ≡ false
 SparesRadio J r f = Unit {0}
@@ -109,9 +111,9 @@ region_of-spared db J r f spares =
     ∙ ap (λ d. region_by db (hints_of J) (is_self_managed J r) d) (driver_code_of-spared J r f spares)
 
 region_call-spared : (db : List Domain) (J : Journal) (r : ℕ) (f : Fact) → SparesRadio J r f
-    → pushed (if is_same_region (region_of db (f ∷ J) r) (region_of db J r) then None else Some RegionChanged) (calls_of db J r) ≡ calls_of db J r
+    → pushed (if is_same_region (region_of db (f ∷ J) r) (region_of db J r) then None else Some (RegionChanged (checks_last_on db (f ∷ J) r))) (calls_of db J r) ≡ calls_of db J r
 region_call-spared db J r f spares =
-    same_call (calls_of db J r) RegionChanged (is_same_region (region_of db (f ∷ J) r) (region_of db J r))
+    same_call (calls_of db J r) (RegionChanged (checks_last_on db (f ∷ J) r)) (is_same_region (region_of db (f ∷ J) r) (region_of db J r))
     (eq-eqb _ _ (ap region_number (region_of-spared db J r f spares)))
 
 pub calls_of-spared : (db : List Domain) (J : Journal) (r : ℕ) (f : Fact) → SparesRadio J r f → calls_of db (f ∷ J) r ≡ calls_of db J r
@@ -120,6 +122,8 @@ calls_of-spared db J r (hinted hint) spares = region_call-spared db J r (hinted 
 calls_of-spared db J r (radio_added q profile) spares = region_call-spared db J r (radio_added q profile) spares
 calls_of-spared db J r (radio_removed q) spares = region_call-spared db J r (radio_removed q) spares
 calls_of-spared db J r (radar_met q chan) spares = other_call (calls_of db J r) (Radar chan) (r == q) spares
+calls_of-spared db J r (started i chan power) spares = other_call (calls_of db J r) (Operate (slot_of J i) (Some chan)) (is_on J i r && sends_first J i) spares
+calls_of-spared db J r (stopped i) spares = other_call (calls_of db J r) (Operate (slot_of J i) None) (is_on J i r && sends_first J i) spares
 calls_of-spared db J r (check_begun i chan length) spares = other_call (calls_of db J r) (Begin (slot_of J i) chan length) (is_on J i r) spares
 calls_of-spared db J r (check_dropped i) spares = other_call (calls_of db J r) (DropCheck (slot_of J i)) (is_on J i r) spares
 calls_of-spared db J r f spares = refl
@@ -134,7 +138,7 @@ KeepsRadio-spared db J r f radio spares kept = record {
   driver = driver_code_of-spared J r f spares ∙ kept.driver;
   table = subst (λ ds. IsTableOf ds radio.table) (sym (applies-spared db J r f spares)) kept.table;
   records = subst (λ ds. AreRecords ds radio.chans.chans) (sym (applies-spared db J r f spares)) kept.records;
-  book = subst (λ calls. BookStandsFor radio.book (map (λ c. c.khz) radio.chans.chans) calls) (sym (calls_of-spared db J r f spares)) kept.book;
+  book = subst (λ calls. BookStandsFor radio.book (map (λ c. c.khz) radio.chans.chans) (opening_of db r) calls) (sym (calls_of-spared db J r f spares)) kept.book;
 }
 
 pub KeepsPlace-spared : (db : List Domain) (J : Journal) (r : ℕ) (f : Fact) (place : RadioPlace) → SparesRadio J r f → KeepsPlace db J r place → KeepsPlace db (f ∷ J) r place

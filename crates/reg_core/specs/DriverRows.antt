@@ -39,6 +39,7 @@ pub record HasOnAir (J : Journal) (r : ℕ) (air : List OnAir) : Type 0 where
   pub is_air : IsAir air
   pub each : (i : ℕ) → find (λ e. e.iface == i) air ≡ entry_in J r i
 
+-- the place of a radio's driver: empty exactly where the radio has gone, and else with what the radio has on air
 abbrev pub IsDriven : Journal → ℕ → Option Seen → Type 0
 IsDriven J r None = IsTrue (is_removed J r)
 IsDriven J r (Some s) = (is_removed J r ≡ false) × HasOnAir J r s.air
@@ -66,6 +67,7 @@ HasRisen s s' = ⊥
 abbrev pub HasFailed : Journal → Request → List (Option Seen) → List (Option Seen) → Type 0
 HasFailed J q row row' = IsSomeAnd (driven_radio J q) (λ r. HasRisen (driver_at row r) (driver_at row' r))
 
+-- the check, where it is this radio's, and else what was told before
 abbrev pub check_on : ℕ → ℕ → CheckTold → Option CheckTold → Option CheckTold
 check_on q r check before = if q == r then Some check else before
 

@@ -11,7 +11,7 @@ use Rattle.reg_journal.specs.Due.{EachMayFollow}
 use Rattle.reg_journal.specs.Facts.{Journal}
 use Rattle.reg_journal.specs.Present.{Iface, Operation, ifaces_of, is_indoor, is_used, made_of, now_of, operation_of, profile_of}
 use Rattle.reg_journal.specs.Settled.{AreSettled}
-use Rattle.reg_core.specs.Calls.{calls_of}
+use Rattle.reg_core.specs.Calls.{calls_of, opening_of}
 use Rattle.reg_core.specs.Slots.{slot_of}
 use Rattle.reg_core.specs.declared.core_state.Core.{Core}
 use Rattle.reg_core.specs.declared.interface.Interface.{Interface}
@@ -22,6 +22,7 @@ use Rattle.reg_core.specs.declared.radio.RadioPlace.TheVariants.{Free, Removed, 
 
 -- ---- interfaces
 
+-- an operation as it is kept
 abbrev pub kept_operation : Operation → Running
 kept_operation o = record { chan = o.chan; power_mbm = o.power }
 
@@ -52,8 +53,9 @@ pub record KeepsRadio (db : List Domain) (J : Journal) (r : ℕ) (radio : Radio)
   pub driver : driver_code_of J r ≡ radio.driver
   pub table : IsTableOf (applies db J r) radio.table
   pub records : AreRecords (applies db J r) radio.chans.chans
-  pub book : BookStandsFor radio.book (map (λ c. c.khz) radio.chans.chans) (calls_of db J r)
+  pub book : BookStandsFor radio.book (map (λ c. c.khz) radio.chans.chans) (opening_of db r) (calls_of db J r)
 
+-- a place for a radio: free where its number was never used, removed where its radio has gone, and else with what is kept of it
 abbrev pub KeepsPlace : List Domain → Journal → ℕ → RadioPlace → Type 0
 KeepsPlace db J r Free = is_used J r ≡ false
 KeepsPlace db J r Removed = (is_used J r ≡ true) × (profile_of J r ≡ None)
@@ -65,6 +67,7 @@ radio_in Free = None
 radio_in Removed = None
 radio_in (There radio) = Some radio
 
+-- each of the eight places is kept so
 abbrev pub KeepsRadios : List Domain → Journal → List RadioPlace → Type 0
 KeepsRadios db J places = (r : ℕ) → r < 8 → KeepsPlace db J r (slice_index_or places r Free)
 

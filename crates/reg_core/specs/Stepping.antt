@@ -27,10 +27,12 @@ use Rattle.reg_core.specs.DriverRows.{AllGoOn, AreDriven, Follows, HasFailed, dr
 use Rattle.reg_core.specs.Kept.{StandsFor}
 use Rattle.reg_core.specs.declared.core_state.Core.{Core}
 
+-- it says that the radio's driver failed
 abbrev pub is_failure : Refusal → Bool
 is_failure DriverFailed = true
 is_failure e = false
 
+-- it is refused since a driver failed
 abbrev pub is_failed_answer : Answer → Bool
 is_failed_answer (Refused e) = is_failure e
 is_failed_answer answer = false
@@ -40,6 +42,7 @@ abbrev pub is_failed : Reply → Bool
 is_failed (Plain answer effects) = is_failed_answer answer
 is_failed reply = false
 
+-- it refuses the request
 abbrev pub is_refusal : Reply → Bool
 is_refusal (Plain (Refused e) effects) = true
 is_refusal reply = false

@@ -7,6 +7,7 @@ pub mod InUse
 pub mod Judging
 pub mod Lists
 pub mod Making
+pub mod Operating
 pub mod Outcomes
 pub mod Interfaces
 pub mod RegionSoFar

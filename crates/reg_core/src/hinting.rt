@@ -10,7 +10,7 @@ ghost use Rattle.reg_core.specs.Kept.{KeepsRadios, KeepsPlace};
 
 use crate::domains::Domains;
 use crate::radio::RadioPlace;
-use crate::regions::{is_moved, region_of};
+use crate::regions::{checks_last, is_moved, region_of};
 use crate::tables::radio_table;
 use reg_hints::{Hint, Hints};
 use rule_intersect::{ResolveFault, Table};
@@ -97,7 +97,7 @@ fn retune_place(
     let driver = driver_after(hint, number, radio.driver);
     let was = region_of(domains, before, self_managed, radio.driver);
     let is = region_of(domains, after, self_managed, driver);
-    radio.retune(driver, table, is_moved(was, is));
+    radio.retune(driver, table, is_moved(was, is), checks_last(is));
 }
 
 /// The hint came, which led from the hints `before` to the hints `after`, and leaves the radios with

@@ -3,10 +3,10 @@
 ghost use Rattle.std.specs.Prelude.{◌≡◌, ◌==◌, ◌↔◌, ℕ, ◌+◌, ◌<◌, List, ◌∷◌, ◌++◌, Contains, Option, Some, None, find};
 ghost use Rattle.rule_tables.specs.declared.domain.Domain.{Domain};
 ghost use Rattle.chan_flags.specs.Profiles.{Abilities};
-ghost use Rattle.dfs_states.specs.Calls.{moment_of as now_in_book};
+ghost use Rattle.dfs_states.specs.Calls.{lasts_of, moment_of as now_in_book};
 ghost use Rattle.dfs_states.specs.Meaning.{AreBlank, EachMayBeCalled as AreDueCalls, CheckCounts as CountsInBook};
 ghost use Rattle.dfs_states.specs.Meaning.{HasNonoccupancy as IsBarredInBook, IsFreeSlot, IsPastNonoccupancy as IsQuietInBook};
-ghost use Rattle.dfs_states.specs.Meaning.{IsBookState as IsStateInBook, Runs, CheckStands as StandsInBook};
+ghost use Rattle.dfs_states.specs.Meaning.{CheckLapsed, HasOperation, IsBookState as IsStateInBook, Runs, CheckStands as StandsInBook};
 ghost use Rattle.dfs_states.specs.declared.dfs.Dfs.{Dfs};
 ghost use Rattle.radio_drv.specs.Air.{IsAir};
 ghost use Rattle.radio_drv.specs.Seen.{Seen};
@@ -14,14 +14,14 @@ ghost use Rattle.reg_journal.specs.Due.{EachMayFollow};
 ghost use Rattle.reg_journal.specs.Facts.{Journal, radio_added};
 ghost use Rattle.reg_journal.specs.OnAir.{on_air_of};
 ghost use Rattle.reg_journal.specs.Present.{Check, Iface, check_of, ifaces_of, indexed, now_of, radio_of};
-ghost use Rattle.reg_journal.specs.Radar.{Counts, IsBarred, IsQuiet, IsState, Stands};
-ghost use Rattle.reg_core.specs.Calls.{calls_of};
+ghost use Rattle.reg_journal.specs.Radar.{Counts, HasLapsed, IsBarred, IsQuiet, IsState, IsUsed, Stands};
+ghost use Rattle.reg_core.specs.Calls.{calls_of, checks_last_on, opening_of};
 ghost use Rattle.reg_core.specs.Entries.{entry_on};
 ghost use Rattle.reg_core.specs.DriverRows.{AreDriven, Follows};
 ghost use Rattle.reg_core.specs.Slots.{slot_of};
 
-/// What a radio's book is told may be told, and says of moments, radar and checks what the journal
-/// says of the radio.
+/// What a radio's book is told may be told, and says of moments, radar, checks, operations and the
+/// region what the journal says of the radio.
 pub fn books_are_told_what_journals_say()
     ensures moment { (db : List Domain) (journal : Journal) (radio : ℕ)
         → now_in_book (calls_of db journal radio) ≡ now_of journal }
@@ -34,9 +34,15 @@ pub fn books_are_told_what_journals_say()
     ensures counts { (db : List Domain) (journal : Journal) (radio khz end : ℕ) → EachMayFollow db journal
         → Counts db journal radio khz end ↔ ((slot : ℕ) × CountsInBook (calls_of db journal radio) khz slot end) }
     ensures stands { (db : List Domain) (journal : Journal) (radio khz end : ℕ) → EachMayFollow db journal
-        → Stands db journal radio khz end ↔ StandsInBook (calls_of db journal radio) khz end }
+        → Stands db journal radio khz end ↔ StandsInBook (opening_of db radio) (calls_of db journal radio) khz end }
+    ensures used { (db : List Domain) (journal : Journal) (radio khz : ℕ) → EachMayFollow db journal
+        → IsUsed journal radio khz ↔ HasOperation (calls_of db journal radio) khz }
+    ensures lapsed { (db : List Domain) (journal : Journal) (radio khz end : ℕ) → EachMayFollow db journal
+        → HasLapsed journal radio khz end ↔ CheckLapsed (calls_of db journal radio) khz end }
+    ensures lasts { (db : List Domain) (journal : Journal) (radio : ℕ)
+        → lasts_of (opening_of db radio) (calls_of db journal radio) ≡ checks_last_on db journal radio }
     ensures state { (db : List Domain) (journal : Journal) (radio khz : ℕ) (dfs : Dfs) → EachMayFollow db journal
-        → IsState db journal radio khz dfs ↔ IsStateInBook (calls_of db journal radio) khz dfs }
+        → IsState db journal radio khz dfs ↔ IsStateInBook (opening_of db radio) (calls_of db journal radio) khz dfs }
 {}
 
 /// An interface has one of eight slots as long as it is there, another one than the others of its

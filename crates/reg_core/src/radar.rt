@@ -13,12 +13,9 @@ ghost use Rattle.reg_core.specs.inner.Demands.{AllMeet, AllMeetFor, FailsDemand,
 ghost use Rattle.reg_core.specs.declared.radar.Demand.TheVariants.{Clear, Quiet};
 
 use crate::radio::Radio;
-use chan_def::{ChanDef, Kind, Width, subchannels};
+use chan_def::{ChanDef, Kind, MOST_SUBCHANNELS, subchannels};
 use dfs_states::Dfs;
 use reg_journal::Refusal;
-
-/// The most subchannels that a channel covers.
-const MOST_SUBCHANNELS: u8 = 8;
 
 /// What is demanded of the subchannels that have to be checked for radar.
 #[derive(Clone, Copy)]
@@ -72,12 +69,7 @@ pub(crate) fn lowest_failing(radio: &Radio, chan: &ChanDef, demand: Demand) -> O
 fn width_mhz(chan: &ChanDef) -> u16
     ensures { result ≡ width_mhz chan.now }
 {
-    match chan.width {
-        Width::Noht | Width::W20 => 20,
-        Width::W40 => 40,
-        Width::W80 => 80,
-        Width::W160 => 160,
-    }
+    chan.width.mhz()
 }
 
 /// Whether some subchannel has to be checked for radar, and the channel is wider than what the radio

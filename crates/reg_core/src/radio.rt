@@ -3,9 +3,11 @@
 ghost use Rattle.std.specs.Prelude.{◌≡◌, IfOk, map};
 
 use crate::domains::{CustomRules, Domains};
+use crate::regions::{checks_last, region_of};
 use crate::tables::new_radio_table;
+use chan_def::ChanDef;
 use chan_flags::{Profile, RadioChans};
-use dfs_states::DfsBook;
+use dfs_states::{DfsBook, IfSlot};
 use reg_hints::Hints;
 use reg_lists::OutOfMemory;
 use rule_intersect::Table;
@@ -49,7 +51,12 @@ fn centres_of(alloc: Global, chans: &RadioChans) -> Result<Vec<u32>, OutOfMemory
 }
 
 impl Radio {
-    ghost use Rattle.std.specs.Prelude.{◌≡◌, ◌∷◌, ◌≤◌, ◌^◌, ℕ, List, None, IfOk, not};
+    ghost use Rattle.std.specs.Prelude.{◌≡◌, ◌∷◌, ◌≤◌, ◌^◌, ℕ, List, None, Some, IfOk, IfSome, not};
+    ghost use Rattle.std.specs.Option.{option_copied};
+    ghost use Rattle.chan_def.specs.Covered.{IsValidDef};
+    ghost use Rattle.dfs_states.specs.Calls.{Operate};
+    ghost use Rattle.reg_core.specs.Calls.{call_of, checks_last_on};
+    ghost use Rattle.reg_core.specs.inner.Operating.{TellsOperation};
     ghost use Rattle.freq_range.specs.declared.rule.Rule.{Rule};
     ghost use Rattle.rule_intersect.specs.Tables.{IsTableOf};
     ghost use Rattle.reg_hints.specs.Table.{Hinted};
@@ -63,7 +70,7 @@ impl Radio {
     ghost use Rattle.reg_core.specs.inner.Making.{HasTable};
     ghost use Rattle.rule_tables.specs.declared.domain.Domain.{Domain};
     ghost use Rattle.reg_journal.specs.Due.{MayFollow};
-    ghost use Rattle.reg_journal.specs.Facts.{Journal, moment_is};
+    ghost use Rattle.reg_journal.specs.Facts.{Fact, Journal, moment_is};
     ghost use Rattle.reg_core.specs.Kept.{KeepsRadio};
 
     /// A new radio at the present moment, in ms. It has neither custom rules nor a driver's hint.
@@ -83,7 +90,8 @@ impl Radio {
         let mut chans = RadioChans::new(alloc, profile)?;
         chans.refresh(&table);
         let centres = centres_of(alloc, &chans)?;
-        let mut book = DfsBook::new(alloc, centres.as_slice())?;
+        let lasts = checks_last(region_of(domains, hints, profile.self_managed(), None));
+        let mut book = DfsBook::new(alloc, centres.as_slice(), lasts)?;
         book.advance(now);
         Ok(Radio {
             custom: None,
@@ -95,18 +103,24 @@ impl Radio {
     }
 
     /// A hint came, after which the code of the driver's last hint and the rows of the list that applies
-    /// are these, and the radio's region has changed or not.
-    pub(crate) fn retune(&mut self, driver: Option<Alpha2>, table: Table, region_changed: bool)
+    /// are these, the radio's region has changed or not, and checks last in it now or lapse.
+    pub(crate) fn retune(
+        &mut self,
+        driver: Option<Alpha2>,
+        table: Table,
+        region_changed: bool,
+        lasts: bool,
+    )
         ensures kept { (db : List Domain) (J : Journal) (r : ℕ) (hint : Hinted) → KeepsRadio db J r self.old
             → driver_code_of (hinted hint ∷ J) r ≡ driver → IsTableOf (applies db (hinted hint ∷ J) r) table
             → region_changed ≡ not (is_same_region (region_of db (hinted hint ∷ J) r) (region_of db J r))
-            → KeepsRadio db (hinted hint ∷ J) r self.new }
+            → lasts ≡ checks_last_on db (hinted hint ∷ J) r → KeepsRadio db (hinted hint ∷ J) r self.new }
     {
         self.driver = driver;
         self.chans.refresh(&table);
         self.table = table;
         if region_changed {
-            self.book.region_changed();
+            self.book.region_changed(lasts);
         }
     }
 
@@ -121,6 +135,15 @@ impl Radio {
         self.table = table;
     }
 
+    /// The interface of the slot, which sends first, operates on the channel from now on, or on none.
+    pub(crate) fn operate(&mut self, slot: IfSlot, chan: Option<&ChanDef>)
+        ensures kept { (db : List Domain) (J : Journal) (r i : ℕ) (f : Fact) → KeepsRadio db J r self.old
+            → TellsOperation f i (option_copied chan.entry) → call_of db f J r ≡ Some (Operate slot (option_copied chan.entry))
+            → IfSome (option_copied chan.entry) IsValidDef → KeepsRadio db (f ∷ J) r self.new }
+    {
+        self.book.operate(slot, chan);
+    }
+
     /// It is `now`, in ms, which isn't earlier than before.
     pub(crate) fn advance(&mut self, now: u64)
         requires { now ≤ 10 ^ 15 }
@@ -132,11 +155,15 @@ impl Radio {
 }
 
 impl RadioPlace {
-    ghost use Rattle.std.specs.Prelude.{◌≡◌, ◌↔◌, ◌∷◌, ◌≤◌, ◌^◌, ℕ, false, IsTrue, List};
+    ghost use Rattle.std.specs.Prelude.{◌≡◌, ◌↔◌, ◌∷◌, ◌≤◌, ◌^◌, ℕ, Some, false, IfSome, IsTrue, List};
     ghost use Rattle.std.specs.Option.{option_copied};
+    ghost use Rattle.chan_def.specs.Covered.{IsValidDef};
+    ghost use Rattle.dfs_states.specs.Calls.{Operate};
+    ghost use Rattle.reg_core.specs.Calls.{call_of};
+    ghost use Rattle.reg_core.specs.inner.Operating.{TellsOperation};
     ghost use Rattle.rule_tables.specs.declared.domain.Domain.{Domain};
     ghost use Rattle.reg_journal.specs.Due.{MayFollow};
-    ghost use Rattle.reg_journal.specs.Facts.{Journal, moment_is};
+    ghost use Rattle.reg_journal.specs.Facts.{Fact, Journal, moment_is};
     ghost use Rattle.reg_journal.specs.Present.{is_used};
     ghost use Rattle.reg_core.specs.Kept.{KeepsPlace, radio_in};
 
@@ -147,6 +174,17 @@ impl RadioPlace {
     {
         if let RadioPlace::There(radio) = self {
             radio.advance(now);
+        }
+    }
+
+    /// The interface of the slot, which sends first, operates on the channel from now on, or on none.
+    pub(crate) fn operate(&mut self, slot: IfSlot, chan: Option<&ChanDef>)
+        ensures kept { (db : List Domain) (J : Journal) (r i : ℕ) (f : Fact) → KeepsPlace db J r self.old
+            → TellsOperation f i (option_copied chan.entry) → call_of db f J r ≡ Some (Operate slot (option_copied chan.entry))
+            → IfSome (option_copied chan.entry) IsValidDef → KeepsPlace db (f ∷ J) r self.new }
+    {
+        if let RadioPlace::There(radio) = self {
+            radio.operate(slot, chan);
         }
     }
 

@@ -4,6 +4,7 @@ ghost use Rattle.std.specs.Prelude.{◌≡◌, ◌++◌, List, not};
 ghost use Rattle.std.specs.Option.{option_copied, option_to_list};
 ghost use Rattle.rule_tables.specs.declared.domain.Domain.{Domain};
 ghost use Rattle.rule_tables.specs.Regions.{is_same_region};
+ghost use Rattle.rule_tables.specs.declared.code.Region.TheVariants.{Etsi};
 ghost use Rattle.reg_core.specs.inner.Lists.{region_by, shared_by};
 ghost use Rattle.reg_core.specs.inner.RegionSoFar.{IsRegionSoFar};
 
@@ -64,6 +65,13 @@ pub(crate) fn region_of(
         Some(region) => region,
         None => Region::Unset,
     }
+}
+
+/// Whether checks last in the region: it is that of ETSI.
+pub(crate) fn checks_last(region: Region) -> bool
+    ensures { result ≡ is_same_region region Etsi }
+{
+    is_same_region(region, Region::Etsi)
 }
 
 /// Whether a radio's region differs after hints from what it was before them.

@@ -17,7 +17,7 @@ use crate::drivers::DriverRow;
 use crate::interface::{Interface, Running, interface_named, set_operation};
 use crate::judge::judge;
 use crate::radio::Radio;
-use crate::radios::radio_at;
+use crate::radios::{operate_at, radio_at};
 use chan_def::{ChanDef, Kind};
 use radio_drv::{IfIndex, Name};
 use reg_journal::Refusal;
@@ -115,6 +115,7 @@ impl Core {
                     chan: *chan,
                     power_mbm,
                 };
+                operate_at(&mut self.radios, &interface, Some(chan));
                 set_operation(&mut self.interfaces, interface.index, Some(operation));
                 Ok(power_mbm)
             }

@@ -11,6 +11,7 @@ ghost use Rattle.reg_core.specs.Stepping.{IsReady};
 use crate::core_state::Core;
 use crate::drivers::DriverRow;
 use crate::interface::{Interface, interface_named, set_operation};
+use crate::radios::operate_at;
 use crate::starting::is_same_kind;
 use chan_def::Kind;
 use radio_drv::{IfIndex, Name};
@@ -47,6 +48,7 @@ impl Core {
     {
         let interface = self.operating(name, kind)?;
         drivers.stop(interface.radio, IfIndex(interface.index));
+        operate_at(&mut self.radios, &interface, None);
         set_operation(&mut self.interfaces, interface.index, None);
         Ok(())
     }

@@ -1,17 +1,15 @@
 -- Each request leaves a journal in which each fact came where it might, and what each interface does may go on.
-use Rattle.std.proofs.Common.{◌≡◌, ◌≢◌, ℕ, ◌+◌, ◌⊎◌, ◌||◌, Bool, true, List, [], ◌∷◌, All, Contains, Option, Some, None, IsSome, IsSomeAnd, IsTrue, MatchOption, refl, sym, ap, subst, ◌∙◌, inl, inr}
-use Rattle.std.proofs.lemmas.Bool.{cases_eq}
+use Rattle.std.proofs.Common.{◌≡◌, ◌≢◌, ℕ, ◌+◌, ◌⊎◌, Bool, List, [], ◌∷◌, Contains, Option, Some, None, IsSome, IsSomeAnd, IsTrue, MatchOption, refl, sym, subst, inl, inr}
 use Rattle.freq_range.proofs.Members.{Contains-nothing}
 use Rattle.rule_tables.specs.Databases.{IsDb}
 use Rattle.rule_tables.specs.declared.code.Alpha2.{Alpha2}
 use Rattle.rule_tables.specs.declared.domain.Domain.{Domain}
 use Rattle.chan_def.specs.Kinds.{initiates}
 use Rattle.chan_def.specs.declared.definition.ChanDef.{ChanDef}
-use Rattle.chan_def.specs.declared.kind.Kind.{Kind}
 use Rattle.chan_flags.specs.declared.verdict.PowerSetting.{PowerSetting}
 use Rattle.chan_flags.proofs.Existing.{told_true}
 use Rattle.reg_hints.specs.Table.{Hinted, Treated}
-use Rattle.reg_hints.specs.declared.hint.Hint.TheVariants.{User, Element as ElementHint}
+use Rattle.reg_hints.specs.declared.hint.Hint.TheVariants.{User}
 use Rattle.reg_journal.specs.Causes.{IsFree, ◌before◌, Where}
 use Rattle.reg_journal.specs.Due.{FitsItsRadio, code_of_hint}
 use Rattle.reg_journal.specs.Facts.{Fact, Journal, after, check_begun, hinted, indoor_is, made, moment_is, powered, radar_met, radio_added, rules_are, set_to, started, stopped, typed}
@@ -23,7 +21,6 @@ use Rattle.chan_flags.specs.Verdicts.{IsAbove}
 use Rattle.reg_journal.specs.Dumps.{AreShownChannels, IsIfaceReport, IsRadioReport}
 use Rattle.reg_journal.specs.declared.refusal.Refusal.{Refusal}
 use Rattle.reg_journal.specs.declared.refusal.Refusal.TheVariants.{Busy, NothingToCheck, NotRunning, Power, WrongType}
-use Rattle.reg_journal.specs.declared.reply.Answer.{Answer}
 use Rattle.reg_journal.specs.declared.reply.Answer.TheVariants.{Ok, Started, Checking}
 use Rattle.reg_journal.specs.declared.reply.Reply.{Reply}
 use Rattle.reg_journal.specs.declared.reply.Answer.TheVariants.{Hint as HintTaken}
@@ -107,7 +104,7 @@ power_goes db J x setting reply facts goes has free sets = by (operation_of J x.
 -- ---- checks
 
 -- what speaks against a check on the interface
-abbrev CheckCausesOn : List Domain → Journal → ChanDef → Bool → Iface → Refusal → Type 0
+abbrev pub CheckCausesOn : List Domain → Journal → ChanDef → Bool → Iface → Refusal → Type 0
 CheckCausesOn db J c failed x =
     Where (IsTrue (initiates x.kind) → ⊥) WrongType
     before Where (IsInUse J x) Busy

@@ -1,17 +1,15 @@
 -- An interface that gives up what it does and ends.
-use Rattle.std.proofs.Common.{◌≡◌, ℕ, ◌==◌, true, List, [], ◌∷◌, ◌++◌, filter, Contains, Option, Some, None, IsSome, is_some, refl, sym, ap, subst, ◌∙◌, ◌⊎◌, inl, inr, eq-eqb, ne_eqb, eqb-true}
+use Rattle.std.proofs.Common.{◌≡◌, ℕ, ◌==◌, true, List, [], ◌∷◌, ◌++◌, Contains, Option, Some, None, IsSome, is_some, refl, sym, ap, subst, ◌∙◌, ◌⊎◌, inl, inr, eq-eqb, ne_eqb, eqb-true}
 use Rattle.std.specs.List.{flat_map}
 use Rattle.std.proofs.lemmas.Bool.{cases_eq, false≢true}
 use Rattle.std.proofs.lemmas.Option.{same_Some}
 use Rattle.freq_range.proofs.Members.{Contains-head, Contains-later, Contains-nothing, Contains-cases}
 use Rattle.rule_tables.specs.declared.domain.Domain.{Domain}
-use Rattle.chan_flags.specs.Profiles.{Abilities}
-use Rattle.reg_journal.specs.Due.{EachMayFollow, MayFollow}
+use Rattle.reg_journal.specs.Due.{EachMayFollow}
 use Rattle.reg_journal.specs.Facts.{Fact, Journal, after, ended, radio_removed, stopped, check_dropped}
 use Rattle.reg_journal.specs.Present.{Check, Iface, Operation, check_of, ifaces_of, ifaces_on, indexed, is_apart, operation_of, profile_of}
 use Rattle.reg_journal.specs.Replies.{facts_of_end, facts_of_removal}
-use Rattle.reg_journal.specs.Settled.{AreSettled, IsSettled}
-use Rattle.reg_journal.specs.Sweep.{released}
+use Rattle.reg_journal.specs.Settled.{IsSettled}
 use Rattle.reg_journal.proofs.Indexes.{AreApart, LacksIndex, ifaces_on_apart}
 use Rattle.reg_journal.proofs.Judged.{settled_stays}
 use Rattle.reg_journal.proofs.Keeping.{Goes, leaves-each, leaves-removed}

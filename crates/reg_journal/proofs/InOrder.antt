@@ -1,5 +1,5 @@
 -- What is on air, and in which order.
-use Rattle.std.proofs.Common.{◌≡◌, ◌↔◌, ◌==◌, ℕ, suc, ◌<◌, Bool, true, false, not, List, [], ◌∷◌, ◌++◌, length, map, filter, AllPairs, Contains, Option, Some, None, if◌then◌else◌, option_map, arith, refl, sym, ap, subst, ◌∙◌, ◌⊎◌, inl, inr, eq-eqb, ne_eqb}
+use Rattle.std.proofs.Common.{◌≡◌, ◌↔◌, ◌==◌, ℕ, ◌<◌, true, false, not, List, [], ◌∷◌, ◌++◌, length, map, AllPairs, Contains, Option, Some, None, if◌then◌else◌, option_map, arith, refl, sym, ap, subst, ◌∙◌, ◌⊎◌, inl, inr, eq-eqb, ne_eqb}
 use Rattle.std.proofs.lemmas.Bool.{cases_Bool, cases_eq, false≢true}
 use Rattle.std.proofs.lemmas.List.Elements.{All-nil}
 use Rattle.std.proofs.lemmas.List.Kept.{AllPairs-cons, AllPairs-filter}
@@ -15,7 +15,7 @@ use Rattle.radio_drv.specs.declared.on_air.OnAir.{OnAir}
 use Rattle.reg_journal.specs.Due.{EachMayFollow}
 use Rattle.reg_journal.specs.Facts.{Fact, Journal, made, started, stopped, powered}
 use Rattle.reg_journal.specs.OnAir.{OperatesSince, StartedBefore, entry, is_on, on_air_of}
-use Rattle.reg_journal.specs.Present.{Operation, operation_of, operation_with_power, radio_of}
+use Rattle.reg_journal.specs.Present.{Operation, operation_of, operation_with_power}
 use Rattle.reg_journal.proofs.Lasting.{Contains-kept}
 use Rattle.reg_journal.proofs.Listed.{Contains-filter, Contains-map}
 use Rattle.reg_journal.proofs.Operations.{no_operation_next}
@@ -111,10 +111,10 @@ power_pairs R i power [] each = each
 power_pairs R i power (x ∷ air) each =
     AllPairs-cons (λ (a b : OnAir). R a.iface b.iface) (entry_with_power i power x) (given_power i power air)
     (All-from_members (λ (b : OnAir). R (entry_with_power i power x).iface b.iface) (given_power i power air) (λ b has.
-        let from = Contains-map (entry_with_power i power) air b has in
-        let is : (from.0).iface ≡ b.iface = sym (power_iface i power from.0) ∙ ap (λ (z : OnAir). z.iface) from.2 in
-        subst (λ j. R (entry_with_power i power x).iface j) is (subst (λ j. R j (from.0).iface) (sym (power_iface i power x))
-        (before_rest (λ (a b : OnAir). R a.iface b.iface) x air from.0 each from.1))))
+    let from = Contains-map (entry_with_power i power) air b has in
+    let is : (from.0).iface ≡ b.iface = sym (power_iface i power from.0) ∙ ap (λ (z : OnAir). z.iface) from.2 in
+    subst (λ j. R (entry_with_power i power x).iface j) is (subst (λ j. R j (from.0).iface) (sym (power_iface i power x))
+    (before_rest (λ (a b : OnAir). R a.iface b.iface) x air from.0 each from.1))))
     (power_pairs R i power air (pairs_rest (λ (a b : OnAir). R a.iface b.iface) x air each))
 
 -- a relation that follows on the interfaces of the list
@@ -222,14 +222,14 @@ start_step J r j c power was on same = record {
   order = subst (EachBefore (StartedBefore next)) (sym same) (put_pairs (StartedBefore next) new air was.once
       (pairs_weaker (StartedBefore J) (StartedBefore next) air (λ a b has_a has_b before. before_later (started j c power) J a.iface b.iface (λ at. cc) (λ at. cc) before) was.order)
       (λ none x has.
-          let found = was.since x has in
-          record {
-            first = found.0;
-            second = J;
-            first_since = since_later (started j c power) J x.iface found.0 (λ at. cc) found.1;
-            second_since = since_start J j c power (resting none);
-            earlier = found.2;
-          }));
+      let found = was.since x has in
+      record {
+        first = found.0;
+        second = J;
+        first_since = since_later (started j c power) J x.iface found.0 (λ at. cc) found.1;
+        second_since = since_start J j c power (resting none);
+        earlier = found.2;
+      }));
   since = λ e has. elim (put_cases new air e was.once (subst (λ xs. Contains xs e) same has)) [
     | inl is ↦ subst (λ (z : OnAir). (older : Journal) × OperatesSince next z.iface older × (length older < length next)) is own_since
     | inr old ↦ later_since e old.0
@@ -382,7 +382,7 @@ in_order db (powered j power ∷ J) r due =
 in_order db (made j name q kind ∷ J) r due =
     let was = in_order db J r due.1 in
     let new : (i : ℕ) (o : Operation) → operation_of J i ≡ Some o → i ≡ j → ⊥ =
-        λ i o is same. none-some o (sym (no_operation_next db J j due.1 due.0.0) ∙ ap (operation_of J) (sym same) ∙ is) in
+    λ i o is same. none-some o (sym (no_operation_next db J j due.1 due.0.0) ∙ ap (operation_of J) (sym same) ∙ is) in
     left_step (made j name q kind) J r was refl (λ i on at. cc)
     (λ e has. let old = was.operates e has in (rw (ne_eqb e.iface j (new e.iface _ old.1)) old.0, refl))
     (λ i o on is. (rw (ne_eqb i j (new i o is)) at on, is))

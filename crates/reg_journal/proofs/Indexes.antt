@@ -1,14 +1,12 @@
 -- No two interfaces that are there have one index.
-use Rattle.std.proofs.Common.{◌≡◌, ℕ, ◌+◌, ◌^◌, ◌==◌, ◌<◌, Bool, true, false, List, [], ◌∷◌, ◌++◌, map, filter, Contains, Option, Some, None, unwrap_or, refl, sym, ap, ◌∙◌, inl, inr, arith, eq-eqb, ne_eqb}
+use Rattle.std.proofs.Common.{◌≡◌, ℕ, ◌^◌, ◌==◌, ◌<◌, Bool, List, [], ◌∷◌, ◌++◌, map, filter, Contains, sym, ap, ◌∙◌, inl, inr, arith, eq-eqb, ne_eqb}
 use Rattle.std.proofs.lemmas.Bool.{cases_Bool, cases_eq}
 use Rattle.std.proofs.lemmas.List.Elements.{Contains-push_cases}
-use Rattle.std.proofs.lemmas.Option.{none-some, same_Some}
 use Rattle.freq_range.proofs.Members.{Contains-head, Contains-later, Contains-nothing}
 use Rattle.rule_tables.specs.declared.domain.Domain.{Domain}
-use Rattle.chan_flags.specs.Profiles.{Abilities}
 use Rattle.reg_journal.specs.Due.{EachMayFollow}
 use Rattle.reg_journal.specs.Facts.{Journal, made, ended, typed, set_to, radio_added, radio_removed}
-use Rattle.reg_journal.specs.Present.{Iface, abilities_of, ifaces_of, ifaces_on, is_apart, new_iface, no_abilities, profile_of, with_kind, with_setting}
+use Rattle.reg_journal.specs.Present.{Iface, abilities_of, ifaces_of, ifaces_on, is_apart, new_iface, with_kind, with_setting}
 use Rattle.reg_journal.proofs.Homes.{index-with_kind, index-with_setting, none_next}
 use Rattle.reg_journal.proofs.Listed.{Contains-filter, Contains-map}
 use Rattle.reg_journal.proofs.Radios.{home_listed}

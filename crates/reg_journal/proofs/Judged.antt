@@ -1,19 +1,12 @@
 -- What an interface does may go on after a fact that leaves its radio.
-use Rattle.std.proofs.Common.{◌≡◌, ℕ, ◌==◌, false, List, [], ◌∷◌, ◌++◌, Contains, Option, Some, None, IfSome, IsSome, MatchOption, unwrap_or, if◌then◌else◌, refl, sym, subst, ap, ◌∙◌, ◌⊎◌, inl, inr, eq-eqb, ne_eqb}
-use Rattle.std.specs.Option.{option_to_list}
-use Rattle.std.specs.Prelude.{map, option_and_then}
-use Rattle.rule_tables.specs.Regions.{common_region}
+use Rattle.std.proofs.Common.{◌≡◌, List, ◌∷◌, Contains, Option, Some, None, refl, ◌∙◌}
 use Rattle.rule_tables.specs.declared.domain.Domain.{Domain}
-use Rattle.chan_def.specs.declared.definition.ChanDef.{ChanDef}
-use Rattle.chan_flags.specs.Profiles.{Abilities}
-use Rattle.reg_journal.specs.Applicable.{custom_domains, driver_code_of, driver_domains, find_domain, global_domains, or_nothing}
 use Rattle.reg_journal.specs.Due.{EachMayFollow}
-use Rattle.reg_journal.specs.Facts.{Fact, Journal, radar_met}
+use Rattle.reg_journal.specs.Facts.{Fact, Journal}
 use Rattle.reg_journal.specs.Granted.{IsPermitted}
-use Rattle.reg_journal.specs.Present.{Check, Iface, Operation, check_of, ifaces_of, no_abilities, operation_of}
-use Rattle.reg_journal.specs.Refusals.{IsInUse}
+use Rattle.reg_journal.specs.Present.{Check, Iface, Operation, check_of, ifaces_of, operation_of}
 use Rattle.reg_journal.specs.Settled.{IsCheckPermitted, IsSettled}
-use Rattle.reg_journal.proofs.Lasting.{LeavesRadio, Operates, check_permitted_stays, permitted_stays}
+use Rattle.reg_journal.proofs.Lasting.{LeavesRadio, check_permitted_stays, permitted_stays}
 use Rattle.reg_journal.proofs.Operations.{BeginsCheck, check_ran}
 
 -- one that does nothing

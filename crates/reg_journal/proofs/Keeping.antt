@@ -1,19 +1,17 @@
 -- What is kept over a fact: each fact came where it might, what each interface does may go on, and custom rules are plain.
-use Rattle.std.proofs.Common.{◌≡◌, ℕ, ◌==◌, ◌≤◌, true, List, [], ◌∷◌, ◌++◌, Contains, Option, Some, None, IsSome, refl, sym, ap, subst, ◌∙◌, inl, inr, eq-eqb, ne_eqb, unwrap_or, if◌then◌else◌, map, option_and_then}
-use Rattle.std.proofs.lemmas.Bool.{cases_eq}
+use Rattle.std.proofs.Common.{◌≡◌, ℕ, List, [], ◌∷◌, ◌++◌, Option, Some, None, refl, sym, ap, subst, ne_eqb, unwrap_or, if◌then◌else◌, map}
 use Rattle.rule_tables.specs.Regions.{common_region}
 use Rattle.rule_tables.specs.declared.domain.Domain.{Domain}
-use Rattle.chan_def.specs.declared.definition.ChanDef.{ChanDef}
 use Rattle.chan_flags.specs.Profiles.{Abilities}
-use Rattle.reg_journal.specs.Applicable.{applies, custom_domains, driver_domains, global_domains, or_nothing, region_of}
+use Rattle.reg_journal.specs.Applicable.{custom_domains, driver_domains, global_domains, or_nothing}
 use Rattle.reg_journal.specs.Due.{EachMayFollow, MayFollow}
 use Rattle.reg_journal.specs.Facts.{Fact, Journal, after, moment_is, radio_added, radio_removed, rules_are, hinted, indoor_is, radar_met, made, ended, typed, set_to, started, stopped, powered, check_begun, check_dropped}
-use Rattle.reg_journal.specs.Present.{Iface, ifaces_of, no_abilities, operation_of, profile_of}
-use Rattle.reg_journal.specs.Settled.{AreSettled, IsSettled}
+use Rattle.reg_journal.specs.Present.{Iface, ifaces_of, no_abilities, profile_of}
+use Rattle.reg_journal.specs.Settled.{AreSettled}
 use Rattle.reg_journal.specs.Sweep.{AreSwept}
 use Rattle.reg_journal.proofs.Lasting.{LeavesRadio}
 use Rattle.reg_journal.proofs.Ranges.{ArePlain, IsPlain}
-use Rattle.reg_journal.proofs.Swept.{EachAwaits, all_swept, each_awaits_of, one_swept, swept_on, IsSweptOn}
+use Rattle.reg_journal.proofs.Swept.{EachAwaits, all_swept, each_awaits_of, swept_on, IsSweptOn}
 
 -- what holds of each journal to which requests led
 pub record Goes (db : List Domain) (J : Journal) : Type 0 where

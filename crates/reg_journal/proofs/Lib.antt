@@ -32,3 +32,11 @@ pub mod Few
 pub mod Telling
 pub mod InOrder
 pub mod Untold
+pub mod Resolving
+pub mod Deciding
+pub mod Answering
+pub mod Showing
+pub mod SomeReply
+pub mod Asked
+pub mod Coded
+pub mod WorkedRows

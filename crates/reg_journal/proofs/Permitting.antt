@@ -1,17 +1,16 @@
 -- Where nothing ends an operation it may go on, and where nothing bars a start it is granted.
-use Rattle.std.proofs.Common.{◌≡◌, ℕ, ◌*◌, ◌/◌, ◌<◌, ◌≤◌, ◌⊎◌, true, List, [], ◌∷◌, length, IsTrue, arith, refl, sym, ap, subst, inl, inr}
-use Rattle.std.proofs.lemmas.Bool.{cases_lt}
-use Rattle.freq_range.specs.Channels.{IsCentre}
+use Rattle.std.proofs.Common.{ℕ, ◌<◌, ◌≤◌, true, false, List, [], ◌∷◌, length, IsTrue, arith, refl, inl, inr}
+use Rattle.std.proofs.lemmas.Bool.{cases_lt, false≢true}
+use Rattle.freq_range.specs.Channels.{IsCentre, IsChannel}
 use Rattle.freq_range.specs.declared.channel.Band.{Band}
 use Rattle.freq_range.specs.declared.channel.Band.TheVariants.{Ghz2, Ghz5, Ghz6}
 use Rattle.freq_range.proofs.Deciding.{Told, told_as, told_both}
 use Rattle.rule_tables.specs.declared.domain.Domain.{Domain}
-use Rattle.chan_def.specs.Covered.{width_khz, IsCovered, IsValidDef}
+use Rattle.chan_def.specs.Covered.{width_khz, IsValidDef}
 use Rattle.chan_def.specs.Kinds.{initiates}
 use Rattle.chan_def.specs.declared.definition.ChanDef.{ChanDef}
-use Rattle.chan_flags.specs.Lists.{IsRadioChannel}
 use Rattle.chan_flags.specs.Profiles.{has_band}
-use Rattle.chan_flags.specs.Verdicts.{Bars, BarsFirst, BarsNone, HasWidth, IsAbove, IsWithinLimit, NoneBars}
+use Rattle.chan_flags.specs.Verdicts.{Bars, BarsNone, HasWidth, IsWithinLimit, NoneBars}
 use Rattle.chan_flags.specs.declared.asked.Obstacle.{Obstacle}
 use Rattle.chan_flags.specs.declared.asked.Obstacle.TheVariants.{Missing, Unruled, Narrow, OfdmBarred, IrBarred, OutdoorBarred}
 use Rattle.chan_flags.specs.declared.profile.Bands.{Bands}
@@ -28,7 +27,7 @@ use Rattle.reg_journal.specs.Granted.{IsGranted, IsPermitted}
 use Rattle.reg_journal.specs.Settled.{IsCheckPermitted}
 use Rattle.reg_journal.specs.Sweep.{MustDrop}
 use Rattle.reg_journal.specs.declared.refusal.Refusal.{Refusal}
-use Rattle.reg_journal.specs.declared.refusal.Refusal.TheVariants.{RadioLacks, RadioLacksWidth, RadioLacksContext, NoRule, Width as TooNarrow, NoOfdm, NoIr, NoOutdoor, Power, RadioLacksRadarWidth, Radar, Unchecked}
+use Rattle.reg_journal.specs.declared.refusal.Refusal.TheVariants.{RadioLacks, NoRule, Width as TooNarrow, NoOfdm, NoIr, NoOutdoor, Power, Radar, Unchecked}
 use Rattle.reg_journal.proofs.Granting.{OnEachBound, whole_mhz}
 use Rattle.reg_journal.proofs.ToldStates.{some_stands, told_quiet}
 
@@ -97,7 +96,7 @@ has_radar_width db J x c free sends s covered bound = elim (cases_lt (abilities_
 pub told_bound : (db : List Domain) (J : Journal) (r s : ℕ) → Told (IsBoundOn db J r s)
 told_bound db J r s = told_governing (λ g. IsTrue g.rule.flags.dfs) (λ g. told_true g.rule.flags.dfs) (applies db J r) s
 
-told_three : (P Q R : Type 0) → Told P → Told Q → Told R → Told (P × Q × R)
+pub told_three : (P Q R : Type 0) → Told P → Told Q → Told R → Told (P × Q × R)
 told_three P Q R p q r = told_as (λ is. (is.0, is.1.0, is.1.1)) (λ is. (is.0, (is.1, is.2))) (told_both p (told_both q r))
 
 is_quiet : (db : List Domain) (J : Journal) (x : Iface) (c : ChanDef) → IsFree (MetRadar db J x c) → OnEachBound db J x c (IsQuiet J x.radio)
@@ -107,7 +106,7 @@ is_quiet db J x c free sends s covered bound = elim (told_quiet J x.radio s) [
       (λ s. told_three _ _ _ (told_true (initiates x.kind)) (told_bound db J x.radio s) (told_not (IsQuiet J x.radio s) (told_quiet J x.radio s))) free s covered (sends, bound, never))
 ]
 
-told_none_stands : (db : List Domain) (J : Journal) (r s : ℕ) → Told (NoneStands db J r s)
+pub told_none_stands : (db : List Domain) (J : Journal) (r s : ℕ) → Told (NoneStands db J r s)
 told_none_stands db J r s = elim (some_stands db J r s) [
   | inl (end, is) ↦ inr (λ none. none end is)
   | inr none ↦ inl none
@@ -222,6 +221,27 @@ told_centre khz = told_as (λ (band, n, is, has). (band, n, is)) (λ (band, n, i
     each Ghz5 = refl
     each Ghz6 = refl
 
+band_6 : Bands
+band_6 = record { ghz2 = false; ghz5 = false; ghz6 = true }
+
+told_in_6 : (khz : ℕ) → Told ((n : ℕ) × IsChannel Ghz6 n khz)
+unfolding band_6
+told_in_6 khz = told_as (λ (band, n, is, has). by band n is has) (λ (n, is). (Ghz6, n, is, refl)) (told_radio_channel band_6 khz)
+  where
+    by : (band : Band) (n : ℕ) → IsChannel band n khz → IsTrue (has_band band_6 band) → (n : ℕ) × IsChannel Ghz6 n khz
+    by Ghz2 n is has = absurd (false≢true has)
+    by Ghz5 n is has = absurd (false≢true has)
+    by Ghz6 n is has = (n, is)
+
+told_in_band : (c : ChanDef) → Told (160000 < width_khz c.width → (n : ℕ) × IsChannel Ghz6 n c.control_khz)
+told_in_band c = elim (cases_lt 160000 (width_khz c.width)) [
+  | inr narrow ↦ inl (λ wide. absurd (omega (arith, wide, narrow)))
+  | inl wide ↦ elim (told_in_6 c.control_khz) [
+    | inl found ↦ inl (λ again. found)
+    | inr never ↦ inr (λ needs. never (needs wide))
+  ]
+]
+
 pub told_valid : (c : ChanDef) → Told (IsValidDef c)
-told_valid c = told_as (λ is. record { in_table = is.0; on_channel = is.1 }) (λ valid. (valid.in_table, valid.on_channel))
-    (told_both (told_centre c.control_khz) (told_covered c c.control_khz))
+told_valid c = told_as (λ is. record { in_table = is.0; in_band = is.1.0; on_channel = is.1.1 }) (λ valid. (valid.in_table, (valid.in_band, valid.on_channel)))
+    (told_both (told_centre c.control_khz) (told_both (told_in_band c) (told_covered c c.control_khz)))

@@ -1,5 +1,5 @@
 -- A request for another power.
-use Rattle.std.proofs.Common.{◌≡◌, ◌≢◌, ℕ, ◌^◌, ◌<◌, ◌≤◌, ◌==◌, ◌⊎◌, List, [], ◌∷◌, map, Contains, Option, Some, None, IfSome, IsSome, IsSomeAnd, MatchOption, is_some, if◌then◌else◌, arith, refl, sym, ap, subst, ◌∙◌, inl, inr, eq-eqb, ne_eqb}
+use Rattle.std.proofs.Common.{◌≡◌, ◌≢◌, ℕ, ◌⊎◌, List, [], ◌∷◌, map, Contains, Option, Some, None, IsSomeAnd, is_some, refl, sym, ap, subst, ◌∙◌, inl, inr, eq-eqb, ne_eqb}
 use Rattle.std.proofs.lemmas.Bool.{cases_eq}
 use Rattle.std.proofs.lemmas.Option.{same_Some}
 use Rattle.freq_range.proofs.Members.{Contains-cases, Contains-head, Contains-later, Contains-nothing}
@@ -9,21 +9,18 @@ use Rattle.chan_flags.specs.Verdicts.{IsAbove, IsWithinLimit, power_of}
 use Rattle.chan_flags.specs.declared.verdict.PowerSetting.{PowerSetting}
 use Rattle.chan_flags.proofs.Existing.{within_or_above}
 use Rattle.chan_flags.proofs.Granted.{granting_from_verdict, verdict_from_granting}
-use Rattle.chan_flags.proofs.OneAnswer.{IsLimit-unique}
 use Rattle.reg_journal.specs.Applicable.{applies}
 use Rattle.reg_journal.specs.Due.{MayFollow}
-use Rattle.reg_journal.specs.Facts.{Fact, Journal, after, powered, set_to}
+use Rattle.reg_journal.specs.Facts.{Journal, powered, set_to}
 use Rattle.reg_journal.specs.Granted.{IsPermitted}
 use Rattle.reg_journal.specs.Permits.{asked_by, IsLimitOf, IsPowerOf}
 use Rattle.reg_journal.specs.Present.{Check, Iface, Operation, check_of, ifaces_of, indexed, operation_of, with_setting}
 use Rattle.reg_journal.specs.Settled.{AreSettled, IsCheckPermitted, IsSettled}
-use Rattle.reg_journal.proofs.Homes.{index-with_setting}
 use Rattle.reg_journal.proofs.Indexes.{LacksIndex}
 use Rattle.reg_journal.proofs.Judged.{check_settled, idle_settled, operation_settled, settled_check, settled_operation}
 use Rattle.reg_journal.proofs.Keeping.{Goes, leaves-each}
 use Rattle.reg_journal.proofs.Lasting.{check_permitted_stays, permitted_stays}
 use Rattle.reg_journal.proofs.Listed.{Contains-map, indexed_listed}
-use Rattle.reg_journal.proofs.Operations.{BeginsCheck, check_ran}
 use Rattle.reg_journal.proofs.Regular.{goes_on, stays}
 use Rattle.reg_journal.proofs.Swept.{IsSweepDone, permitted_power_fits, sweep_done}
 

@@ -1,5 +1,5 @@
 -- A check's length fits its field: no rule that applies has a check time above that of its field.
-use Rattle.std.proofs.Common.{◌≡◌, ℕ, zero, suc, ◌^◌, ◌*◌, ◌<◌, ◌==◌, Bool, true, false, List, [], ◌∷◌, ◌++◌, All, Contains, find, Option, Some, None, option_and_then, if◌then◌else◌, arith, refl, sym, ap, subst, ◌∙◌, inl, inr, eqb-true, eq-eqb, ne_eqb}
+use Rattle.std.proofs.Common.{◌≡◌, ℕ, zero, suc, ◌^◌, ◌<◌, ◌==◌, List, [], ◌∷◌, ◌++◌, All, Contains, find, Option, Some, None, option_and_then, arith, refl, ap, subst, ◌∙◌, inl, inr, eq-eqb, ne_eqb}
 use Rattle.std.specs.List.{filter_map}
 use Rattle.std.specs.Option.{option_map, option_to_list}
 use Rattle.std.proofs.lemmas.Bool.{cases_Bool, cases_eq}
@@ -14,9 +14,9 @@ use Rattle.rule_tables.specs.World.{custom_domain, world, world_domain}
 use Rattle.rule_tables.specs.declared.code.Alpha2.{Alpha2}
 use Rattle.rule_tables.specs.declared.domain.Domain.{Domain}
 use Rattle.chan_def.specs.declared.definition.ChanDef.{ChanDef}
-use Rattle.rule_intersect.specs.Tuples.{Choice, check_ms}
-use Rattle.reg_journal.specs.Applicable.{applies, custom_domains, driver_code_of, driver_domains, find_domain, global_domains, hints_of, is_self_managed, or_nothing, or_world, shared_domains}
-use Rattle.reg_journal.specs.Facts.{Fact, Journal, after, rules_are}
+use Rattle.rule_intersect.specs.Tuples.{check_ms}
+use Rattle.reg_journal.specs.Applicable.{applies, custom_domains, driver_code_of, driver_domains, find_domain, hints_of, is_self_managed, or_nothing, or_world, shared_domains}
+use Rattle.reg_journal.specs.Facts.{Fact, Journal, rules_are}
 use Rattle.reg_journal.specs.Permits.{IsLengthOf}
 use Rattle.reg_journal.specs.Present.{Iface, custom_rules_of}
 use Rattle.reg_journal.proofs.Listed.{Contains-find}
@@ -56,7 +56,7 @@ short_found db a d is found = by (find (λ e. is_same_code e.alpha2 a) db) refl 
       | inr other ↦ absurd (none-some d (rw other at same))
     ]
 
-contains_filter_map : {X Y : Type 0} (g : X → Option Y) (xs : List X) (y : Y) → Contains (filter_map g xs) y → (x : X) × Contains xs x × (g x ≡ Some y)
+pub contains_filter_map : {X Y : Type 0} (g : X → Option Y) (xs : List X) (y : Y) → Contains (filter_map g xs) y → (x : X) × Contains xs x × (g x ≡ Some y)
 contains_filter_map g [] y has = absurd (Contains-nothing y has)
 contains_filter_map {X} {Y} g (x ∷ xs) y has = by (g x) refl (contains_filter_map g xs y)
   where
@@ -67,7 +67,7 @@ contains_filter_map {X} {Y} g (x ∷ xs) y has = by (g x) refl (contains_filter_
       | inr later ↦ let found = rest later in (found.0, Contains-later x xs found.0 found.1, found.2)
     ]
 
-of_option : {X : Type 0} (o : Option X) (x : X) → Contains (option_to_list o) x → o ≡ Some x
+pub of_option : {X : Type 0} (o : Option X) (x : X) → Contains (option_to_list o) x → o ≡ Some x
 of_option None x has = absurd (Contains-nothing x has)
 of_option (Some y) x has = elim (Contains-cases y [] x has) [ inl same ↦ ap Some same | inr none ↦ absurd (Contains-nothing x none) ]
 

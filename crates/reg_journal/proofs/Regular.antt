@@ -1,65 +1,44 @@
 -- Each regular journal is due, and what its interfaces do may go on.
-use Rattle.std.proofs.Common.{◌≡◌, ◌≢◌, ℕ, ◌+◌, ◌^◌, ◌<◌, ◌≤◌, ◌==◌, ◌||◌, ◌⊎◌, Bool, true, false, cond, List, [], ◌∷◌, ◌++◌, length, map, All, Contains, Option, Some, None, IfSome, IsSome, IsSomeAnd, IsTrue, MatchOption, is_some, if◌then◌else◌, arith, refl, sym, ap, subst, ◌∙◌, inl, inr, eq-eqb, ne_eqb}
-use Rattle.std.proofs.lemmas.Bool.{cases_Bool, cases_eq, cases_lt, false≢true, true≢false}
-use Rattle.std.proofs.lemmas.List.Elements.{All-weaker, Contains-push_cases}
-use Rattle.std.proofs.lemmas.Option.{none-some, same_Some}
-use Rattle.freq_range.specs.Valid.{IsValidRule}
-use Rattle.freq_range.specs.First.{IsFirst}
-use Rattle.freq_range.specs.declared.rule.Rule.{Rule}
-use Rattle.freq_range.specs.declared.wmm.Wmm.{Wmm}
-use Rattle.freq_range.specs.Valid.{IsValidWmm}
-use Rattle.freq_range.proofs.Deciding.{Told, told_as, told_both, told_le, told_lt}
-use Rattle.freq_range.proofs.Members.{Contains-cases, Contains-head, Contains-nothing}
-use Rattle.freq_range.proofs.ToldRules.{told_wmm}
+use Rattle.std.proofs.Common.{◌≡◌, ℕ, ◌+◌, ◌<◌, ◌≤◌, ◌⊎◌, Bool, true, false, List, ◌∷◌, length, Contains, Option, Some, None, IsSome, IsSomeAnd, IsTrue, is_some, arith, refl, sym, ap, subst, ◌∙◌, inl, inr, eq-eqb, ne_eqb}
+use Rattle.std.proofs.lemmas.Bool.{cases_eq, cases_lt, true≢false}
+use Rattle.std.proofs.lemmas.List.Elements.{Contains-push_cases}
+use Rattle.std.proofs.lemmas.Option.{same_Some}
 use Rattle.rule_tables.specs.Databases.{IsDb}
-use Rattle.rule_tables.specs.Domains.{IsInvalidAt}
-use Rattle.rule_tables.specs.declared.code.Alpha2.{Alpha2}
 use Rattle.rule_tables.specs.declared.domain.Domain.{Domain}
-use Rattle.rule_tables.proofs.Governed.{first_or_none}
-use Rattle.chan_def.specs.Covered.{IsCovered, IsValidDef}
+use Rattle.chan_def.specs.Covered.{IsValidDef}
 use Rattle.chan_def.specs.Kinds.{initiates}
 use Rattle.chan_def.specs.declared.definition.ChanDef.{ChanDef}
 use Rattle.chan_def.specs.declared.kind.Kind.{Kind}
 use Rattle.chan_def.specs.declared.kind.Kind.TheVariants.{Monitor}
 use Rattle.chan_def.specs.declared.kind.TheConstants.{MOST_IFACES}
 use Rattle.chan_flags.specs.Profiles.{Abilities, IsProfile}
-use Rattle.chan_flags.specs.Verdicts.{IsWithinLimit, IsAbove, power_of}
-use Rattle.chan_flags.specs.declared.verdict.PowerSetting.{PowerSetting}
-use Rattle.chan_flags.proofs.Existing.{told_true, within_or_above}
-use Rattle.chan_flags.proofs.Granted.{granting_from_verdict, verdict_from_granting}
-use Rattle.reg_hints.specs.Table.{Hinted, Own, Treated, hinted_code}
-use Rattle.reg_hints.specs.declared.hint.Hint.{Hint}
-use Rattle.reg_hints.specs.declared.hint.Hint.TheVariants.{User, Driver, Element}
 use Rattle.dfs_states.specs.declared.moments.TheConstants.{LAST_MOMENT_MS}
-use Rattle.reg_journal.specs.Applicable.{applies, find_domain, hints_of, is_self_managed}
 use Rattle.reg_journal.specs.Causes.{IsFree, ◌before◌, Where}
-use Rattle.reg_journal.specs.Due.{EachMayFollow, FitsItsRadio, IsHintDue, IsResting, MayFollow, MayStart}
-use Rattle.reg_journal.specs.Facts.{Fact, Journal, after, moment_is, radio_added, rules_are, hinted, indoor_is, radar_met, made, typed, set_to, started, stopped, powered, check_begun}
+use Rattle.reg_journal.specs.Due.{IsResting, MayFollow}
+use Rattle.reg_journal.specs.Facts.{Fact, Journal, after, moment_is, radio_added, made, typed, started, stopped, check_begun}
 use Rattle.reg_journal.specs.Granted.{IsGranted, IsPermitted, IsStartable}
-use Rattle.reg_journal.specs.Permits.{BarsCheck, IsLengthOf, IsLimitOf, IsPowerOf}
-use Rattle.reg_journal.specs.Present.{Check, Iface, Operation, abilities_of, check_of, ifaces_of, ifaces_on, indexed, is_used, last_check_of, made_of, most_made, named, new_iface, now_of, operation_of, profile_of, with_kind, with_setting}
-use Rattle.reg_journal.specs.Radar.{HasCheck, IsQuiet}
-use Rattle.reg_journal.specs.Refusals.{HintCauses, IfaceAddCauses, InUseFor, IsInUse, LacksIface, LacksRadio, MomentCauses, RadioAddCauses, RulesCauses}
-use Rattle.reg_journal.specs.Replies.{facts_of_end, facts_of_removal}
+use Rattle.reg_journal.specs.Permits.{BarsCheck, IsLengthOf}
+use Rattle.reg_journal.specs.Present.{Check, Iface, Operation, check_of, ifaces_of, ifaces_on, indexed, is_used, last_check_of, made_of, most_made, named, new_iface, now_of, operation_of, profile_of, with_kind}
+use Rattle.reg_journal.specs.Radar.{HasCheck}
+use Rattle.reg_journal.specs.Refusals.{IfaceAddCauses, IsInUse, LacksRadio, MomentCauses, RadioAddCauses}
+use Rattle.reg_journal.specs.Replies.{facts_of_end}
 use Rattle.reg_journal.specs.Settled.{AreSettled, IsCheckPermitted, IsSettled}
-use Rattle.reg_journal.specs.Sweep.{AreSwept, RegionChangedInCheck}
-use Rattle.reg_journal.specs.declared.refusal.Refusal.{Refusal}
-use Rattle.reg_journal.specs.declared.refusal.Refusal.TheVariants.{BadRule, Full, MomentBack, MomentTooLarge, NameTaken, NoRules, SlotUsed, TooManyRules}
-use Rattle.reg_journal.proofs.Ending.{goes_removal, ends_one, goes_released}
+use Rattle.reg_journal.specs.Sweep.{RegionChangedInCheck}
+use Rattle.reg_journal.specs.declared.refusal.Refusal.TheVariants.{Full, MomentTooLarge, NameTaken}
+use Rattle.reg_journal.proofs.Ending.{ends_one, goes_released}
 use Rattle.reg_journal.proofs.Homes.{index-with_kind}
-use Rattle.reg_journal.proofs.Indexes.{LacksIndex}
 use Rattle.reg_journal.proofs.Judged.{check_settled, idle_settled, operation_settled, settled_stays}
-use Rattle.reg_journal.proofs.Keeping.{Goes, SparesRadios, goes_swept_all, leaves-added, leaves-each}
-use Rattle.reg_journal.proofs.Lasting.{Contains-kept, LeavesRadio, Operates, permitted_stays, quiet_stays}
+use Rattle.reg_journal.proofs.Keeping.{Goes, SparesRadios, leaves-added, leaves-each}
+use Rattle.reg_journal.proofs.Lasting.{permitted_stays, quiet_stays}
 use Rattle.reg_journal.proofs.LastCheck.{check_parts}
-use Rattle.reg_journal.proofs.Listed.{Contains-filter, Contains-map, index_of_indexed, indexed_listed, named_listed}
-use Rattle.reg_journal.proofs.Operations.{BeginsCheck, no_check_beside, no_check_next, no_operation_next, some_value}
-use Rattle.reg_journal.proofs.Permitting.{check_of_free, free-first, free-next, never_where, told_valid}
-use Rattle.reg_journal.proofs.Radios.{radio_listed, radio_there, radio_used}
-use Rattle.reg_journal.proofs.Ranges.{ArePlain, IsPlain, length_fits}
+use Rattle.reg_journal.proofs.Listed.{Contains-map, indexed_listed}
+use Rattle.reg_journal.proofs.Operations.{BeginsCheck, no_check_next, no_operation_next}
+use Rattle.reg_journal.proofs.Permitting.{check_of_free, free-first, free-next, never_where}
+use Rattle.reg_journal.proofs.Radios.{radio_listed, radio_used}
+use Rattle.reg_journal.proofs.Ranges.{IsPlain, length_fits}
 use Rattle.reg_journal.proofs.Splits.{check_newest, not_split, split_cases}
 use Rattle.reg_journal.proofs.Starting.{tells_kind}
-use Rattle.reg_journal.proofs.Swept.{Awaits, EachAwaits, each_awaits_of, one_swept, permitted_power_fits, sweep_done}
+use Rattle.reg_journal.proofs.Swept.{permitted_power_fits}
 
 -- ---- small steps
 

@@ -1,5 +1,5 @@
 -- Requests that change rules, radar or the radios' place, and sweep.
-use Rattle.std.proofs.Common.{◌≡◌, ℕ, ◌^◌, ◌<◌, ◌≤◌, ◌==◌, ◌||◌, ◌⊎◌, Bool, true, false, cond, List, [], ◌∷◌, length, All, Contains, Option, Some, None, IfSome, IsSome, IsTrue, arith, refl, sym, ap, subst, ◌∙◌, inl, inr, ne_eqb}
+use Rattle.std.proofs.Common.{◌≡◌, ℕ, ◌<◌, Bool, true, false, cond, List, [], ◌∷◌, length, All, Contains, Option, Some, None, IfSome, IsSome, arith, refl, sym, subst, inl, inr, ne_eqb}
 use Rattle.std.proofs.lemmas.Bool.{cases_lt}
 use Rattle.std.proofs.lemmas.List.Elements.{All-weaker}
 use Rattle.freq_range.specs.First.{IsFirst}
@@ -12,28 +12,26 @@ use Rattle.rule_tables.specs.Domains.{IsInvalidAt}
 use Rattle.rule_tables.specs.declared.code.Alpha2.{Alpha2}
 use Rattle.rule_tables.specs.declared.domain.Domain.{Domain}
 use Rattle.rule_tables.proofs.Governed.{first_or_none}
-use Rattle.chan_def.specs.Covered.{IsValidDef}
 use Rattle.chan_def.specs.declared.definition.ChanDef.{ChanDef}
 use Rattle.chan_flags.proofs.Existing.{told_not}
-use Rattle.reg_hints.specs.Table.{Hinted, Own, Treated, hinted_code}
-use Rattle.reg_hints.specs.declared.hint.Hint.TheVariants.{User, Driver, Element}
+use Rattle.reg_hints.specs.Table.{Hinted, Own, Treated}
+use Rattle.reg_hints.specs.declared.hint.Hint.TheVariants.{Driver}
 use Rattle.reg_journal.specs.Applicable.{applies, find_domain, is_self_managed}
 use Rattle.reg_journal.specs.Causes.{IsFree, ◌before◌, Where}
 use Rattle.reg_journal.specs.Due.{FitsItsRadio, IsHintDue, MayFollow, code_of_hint}
 use Rattle.reg_journal.specs.Facts.{Fact, Journal, after, rules_are, hinted, indoor_is, radar_met}
-use Rattle.reg_journal.specs.Present.{Iface, abilities_of, custom_rules_of, ifaces_of, ifaces_on, profile_of}
+use Rattle.reg_journal.specs.Present.{Iface, ifaces_of, ifaces_on, profile_of}
 use Rattle.reg_journal.specs.Refusals.{AddsFifthCode, HintCauses, InvalidChannel, LacksRadio, RadarCauses, RowCauses, RulesCauses}
-use Rattle.reg_journal.specs.Replies.{driver_hint, element_hint}
+use Rattle.reg_journal.specs.Replies.{driver_hint}
 use Rattle.reg_journal.specs.Settled.{IsSettled}
 use Rattle.reg_journal.specs.Sweep.{AreSwept}
-use Rattle.reg_journal.specs.declared.refusal.Refusal.{Refusal}
 use Rattle.reg_journal.specs.declared.refusal.Refusal.TheVariants.{BadRule, NoCountry, NoRules, TooManyDomains, TooManyRules}
 use Rattle.reg_journal.proofs.Judged.{settled_stays}
-use Rattle.reg_journal.proofs.Keeping.{EachPlain, Goes, each_swept_plain, goes_swept_all, plain_after}
+use Rattle.reg_journal.proofs.Keeping.{Goes, each_swept_plain, goes_swept_all, plain_after}
 use Rattle.reg_journal.proofs.Lasting.{LeavesRadio}
 use Rattle.reg_journal.proofs.Operations.{BeginsCheck}
 use Rattle.reg_journal.proofs.Permitting.{free-first, free-next, never_where, told_valid}
-use Rattle.reg_journal.proofs.Ranges.{ArePlain, IsPlain}
+use Rattle.reg_journal.proofs.Ranges.{IsPlain}
 use Rattle.reg_journal.proofs.Regular.{is_there}
 use Rattle.reg_journal.proofs.Swept.{each_awaits_of, one_swept}
 
@@ -43,14 +41,14 @@ told_maybe_wmm : (w : Option Wmm) → Told (IfSome w IsValidWmm)
 told_maybe_wmm None = inl tt
 told_maybe_wmm (Some w) = told_wmm w
 
-told_rule : (r : Rule) → Told (IsValidRule r)
+pub told_rule : (r : Rule) → Told (IsValidRule r)
 told_rule r = told_as
     (λ t. record { above_zero = t.0; in_order = t.1.0; wide_enough = t.1.1.0; wmm = t.1.1.1.0; end_fits = t.1.1.1.1.0; power_fits = t.1.1.1.1.1.0; check_fits = t.1.1.1.1.1.1 })
     (λ v. (v.above_zero, (v.in_order, (v.wide_enough, (v.wmm, (v.end_fits, (v.power_fits, v.check_fits)))))))
     (told_both (told_lt 0 r.start_khz) (told_both (told_lt r.start_khz r.end_khz) (told_both (told_le r.max_bw_khz _) (told_both (told_maybe_wmm r.wmm)
     (told_both (told_lt r.end_khz _) (told_both (told_lt r.eirp_mbm _) (told_lt r.cac_s _)))))))
 
-all_valid : (rules : List Rule) → ((k : ℕ) → IsFirst (IsInvalidAt rules) k → ⊥) → All IsValidRule rules
+pub all_valid : (rules : List Rule) → ((k : ℕ) → IsFirst (IsInvalidAt rules) k → ⊥) → All IsValidRule rules
 all_valid rules none = elim (first_or_none (λ rule. IsValidRule rule → ⊥) (λ rule. told_not (IsValidRule rule) (told_rule rule)) rules) [
   | inl (k, first) ↦ absurd (none k first)
   | inr each ↦ All-weaker (λ rule. (IsValidRule rule → ⊥) → ⊥) IsValidRule (λ rule twice. elim (told_rule rule) [ inl valid ↦ valid | inr never ↦ absurd (twice never) ]) rules each

@@ -1,10 +1,9 @@
 -- A start is answered with a power exactly where it is granted with it.
-use Rattle.std.proofs.Common.{◌≡◌, ◌≢◌, ℕ, zero, suc, ◌⊎◌, Bool, true, false, List, [], ◌∷◌, Option, Some, None, IsSome, IsSomeAnd, IsTrue, refl, sym, ap, subst, ◌∙◌, inl, inr}
+use Rattle.std.proofs.Common.{◌≡◌, ◌≢◌, ℕ, zero, suc, Bool, false, List, [], ◌∷◌, Option, Some, None, IsSomeAnd, refl, sym, subst, ◌∙◌, inl, inr}
 use Rattle.std.proofs.lemmas.Bool.{cases_eq, false≢true}
-use Rattle.std.proofs.lemmas.Option.{none-some, same_Some}
-use Rattle.freq_range.proofs.Deciding.{Told, Tells, tells_through}
+use Rattle.std.proofs.lemmas.Option.{none-some}
+use Rattle.freq_range.proofs.Deciding.{Tells, tells_through}
 use Rattle.rule_tables.specs.declared.domain.Domain.{Domain}
-use Rattle.chan_def.specs.Covered.{IsValidDef}
 use Rattle.chan_def.specs.declared.definition.ChanDef.{ChanDef}
 use Rattle.chan_def.specs.declared.kind.Kind.{Kind}
 use Rattle.chan_def.specs.declared.kind.Kind.TheVariants.{Station, Ap, Ibss, Mesh, Monitor}
@@ -17,7 +16,7 @@ use Rattle.reg_journal.specs.Refusals.{FailsDriver, InUseFor, InvalidChannel, La
 use Rattle.reg_journal.specs.Replies.{Gives, OnNamed, Replies}
 use Rattle.reg_journal.specs.declared.effects.Effect.{Effect}
 use Rattle.reg_journal.specs.declared.refusal.Refusal.{Refusal}
-use Rattle.reg_journal.specs.declared.refusal.Refusal.TheVariants.{BadChannel, Busy, DriverFailed, NoInterface, WrongType}
+use Rattle.reg_journal.specs.declared.refusal.Refusal.TheVariants.{Busy, WrongType}
 use Rattle.reg_journal.specs.declared.reply.Answer.TheVariants.{Started, Refused}
 use Rattle.reg_journal.specs.declared.reply.Reply.TheVariants.{Plain}
 use Rattle.reg_journal.specs.declared.request.Request.TheVariants.{Start}

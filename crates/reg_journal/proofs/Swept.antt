@@ -1,5 +1,5 @@
 -- After a sweep what each interface does may go on.
-use Rattle.std.proofs.Common.{◌≡◌, ℕ, ◌^◌, ◌<◌, ◌≤◌, List, [], ◌∷◌, ◌++◌, Contains, Option, Some, None, IsSome, IsSomeAnd, MatchOption, is_some, ◌==◌, refl, sym, subst, ap, ◌∙◌, ◌⊎◌, inl, inr, arith, eq-eqb, ne_eqb}
+use Rattle.std.proofs.Common.{◌≡◌, ℕ, ◌^◌, ◌<◌, List, [], ◌∷◌, ◌++◌, Contains, Option, Some, None, IsSome, IsSomeAnd, MatchOption, is_some, ◌==◌, refl, sym, subst, ap, ◌∙◌, ◌⊎◌, inl, inr, arith, eq-eqb, ne_eqb}
 use Rattle.std.specs.Option.{option_map, option_to_list}
 use Rattle.std.proofs.lemmas.Bool.{cases_eq, eqb-true}
 use Rattle.std.proofs.lemmas.Option.{none-some, same_Some}
@@ -9,18 +9,16 @@ use Rattle.reg_journal.specs.Due.{EachMayFollow, MayFollow}
 use Rattle.reg_journal.specs.Facts.{Fact, Journal, after, stopped, powered, check_dropped}
 use Rattle.reg_journal.specs.Granted.{IsPermitted}
 use Rattle.reg_journal.specs.Present.{Check, Iface, Operation, check_of, ifaces_of, ifaces_on, indexed, operation_of, operation_with_power}
-use Rattle.reg_journal.specs.Applicable.{applies}
-use Rattle.reg_journal.specs.Permits.{asked_by}
-use Rattle.reg_journal.specs.Settled.{AreSettled, IsCheckPermitted, IsSettled}
+use Rattle.reg_journal.specs.Settled.{AreSettled, IsSettled}
 use Rattle.reg_journal.specs.Sweep.{AreSwept, Becomes, CheckBecomes, OperationBecomes}
 use Rattle.chan_def.specs.declared.definition.ChanDef.{ChanDef}
 use Rattle.chan_flags.proofs.Granted.{power_within}
 use Rattle.reg_journal.proofs.Indexes.{AreApart, LacksIndex, ifaces_apart, ifaces_on_apart, power_fits}
 use Rattle.reg_journal.proofs.Permitting.{check_permitted_of_kept, permitted_of_free}
 use Rattle.reg_journal.proofs.Judged.{check_settled, idle_settled, operation_settled, settled_stays}
-use Rattle.reg_journal.proofs.Lasting.{Contains-kept, LeavesRadio, Operates, permitted_stays}
+use Rattle.reg_journal.proofs.Lasting.{Contains-kept, LeavesRadio, permitted_stays}
 use Rattle.reg_journal.proofs.Listed.{Contains-filter, indexed_listed}
-use Rattle.reg_journal.proofs.Operations.{BeginsCheck, no_check_after, no_check_beside, some_of_property, some_value}
+use Rattle.reg_journal.proofs.Operations.{BeginsCheck, no_check_beside, some_of_property, some_value}
 
 -- What is to become of the interface may come now, and leaves what may go on.
 abbrev pub Awaits : List Domain → Journal → Iface → Option Fact → Type 0

@@ -1,11 +1,9 @@
 -- What a reply's facts tell: at most 64 effects, and a check's beginning alone changes the check last told.
-use Rattle.std.proofs.Common.{◌≡◌, ◌≢◌, ℕ, suc, ◌+◌, ◌≤◌, ◌==◌, ◌⊎◌, Bool, List, [], ◌∷◌, ◌++◌, length, Contains, Option, Some, None, IfSome, IsSomeAnd, MatchOption, arith, refl, sym, ap, subst, ◌∙◌, inl, inr, eq-eqb}
+use Rattle.std.proofs.Common.{◌≡◌, ◌≢◌, ℕ, suc, ◌+◌, ◌≤◌, ◌⊎◌, Bool, List, [], ◌∷◌, ◌++◌, length, Option, Some, None, IfSome, IsSomeAnd, MatchOption, arith, refl, sym, ap, subst, inl, inr}
 use Rattle.std.specs.List.{cons_option, filter_map, flat_map}
-use Rattle.std.specs.Option.{option_map_or, option_to_list}
 use Rattle.std.proofs.lemmas.List.{length-append}
 use Rattle.rule_tables.specs.declared.code.Alpha2.{Alpha2}
 use Rattle.rule_tables.specs.declared.domain.Domain.{Domain}
-use Rattle.chan_def.specs.declared.definition.ChanDef.{ChanDef}
 use Rattle.chan_flags.specs.declared.record.Chan.{Chan}
 use Rattle.chan_flags.specs.declared.verdict.PowerSetting.{PowerSetting}
 use Rattle.dfs_states.specs.declared.dfs.Dfs.{Dfs}
@@ -13,32 +11,28 @@ use Rattle.reg_hints.specs.Element.{IsElement}
 use Rattle.reg_hints.specs.Table.{Hinted, Treated}
 use Rattle.reg_hints.specs.declared.element.Element.{Element}
 use Rattle.reg_hints.specs.declared.hint.Hint.TheVariants.{User}
-use Rattle.radio_drv.specs.declared.on_air.CheckTold.{CheckTold}
 use Rattle.reg_journal.specs.Causes.{◌before◌}
 use Rattle.reg_journal.specs.Dumps.{AreShownChannels, IsIfaceReport, IsRadioReport}
 use Rattle.reg_journal.specs.declared.report.IfaceReport.{IfaceReport}
 use Rattle.reg_journal.specs.declared.report.RadioReport.{RadioReport}
 use Rattle.reg_journal.specs.Due.{EachMayFollow}
 use Rattle.reg_journal.specs.Effects.{HasFewEffects, effect_of, effects_of}
-use Rattle.reg_journal.specs.Facts.{Fact, Journal, after, moment_is, radio_added, radio_removed, rules_are, hinted, indoor_is, radar_met, made, ended, typed, set_to, started, stopped, powered, check_begun, check_dropped}
-use Rattle.reg_journal.specs.OnAir.{is_on, told_of}
+use Rattle.reg_journal.specs.Facts.{Fact, Journal, moment_is, radio_added, radio_removed, rules_are, hinted, indoor_is, radar_met, made, typed, set_to, started, stopped, powered, check_begun, check_dropped}
 use Rattle.reg_journal.specs.Permits.{IsLengthOf, IsPowerOf}
-use Rattle.reg_journal.specs.Present.{Check as RunningCheck, Iface, Operation, check_of, ifaces_of, ifaces_on, made_of, named, operation_of, radio_of, with_setting}
+use Rattle.reg_journal.specs.Present.{Check as RunningCheck, Iface, Operation, check_of, ifaces_of, ifaces_on, made_of, named, operation_of, with_setting}
 use Rattle.reg_journal.specs.Refusals.{ElementCauses, HintCauses, LacksRadio}
 use Rattle.reg_journal.specs.Replies.{Decides, Gives, GivesEffects, Hints, OnNamed, Replies, SetsPower, Shows, Sweeps, answer_of, driver_hint, element_hint, facts_of_end, facts_of_removal}
-use Rattle.reg_journal.specs.Sweep.{AreSwept, Becomes, CheckBecomes, OperationBecomes, released}
+use Rattle.reg_journal.specs.Sweep.{AreSwept, Becomes, CheckBecomes, OperationBecomes}
 use Rattle.reg_journal.specs.declared.effects.Effect.{Effect}
 use Rattle.reg_journal.specs.declared.effects.TheConstants.{MOST_EFFECTS}
 use Rattle.reg_journal.specs.declared.refusal.Refusal.{Refusal}
 use Rattle.reg_journal.specs.declared.reply.Answer.{Answer}
 use Rattle.reg_journal.specs.declared.reply.Answer.TheVariants.{Ok, Hint as HintTaken, Started, Checking, Refused}
 use Rattle.reg_journal.specs.declared.reply.Reply.{Reply}
-use Rattle.reg_journal.specs.declared.reply.Reply.TheVariants.{Plain, Regs, Channels as ShownChannels, Radio as OfRadio, Iface as OfIface}
+use Rattle.reg_journal.specs.declared.reply.Reply.TheVariants.{Plain, Channels as ShownChannels, Radio as OfRadio, Iface as OfIface}
 use Rattle.reg_journal.specs.declared.request.Request.{Request}
 use Rattle.reg_journal.specs.declared.request.Request.TheVariants.{At, RadioAdd, RadioDel, RadioRules, Element as HeardElement, DriverHint, UserHint, Radar, Indoor, IfaceAdd, IfaceDel, SetType, SetPower, Start, Stop, Check, GetReg, Channels, RadioInfo, IfaceInfo}
 use Rattle.reg_journal.proofs.Few.{few_ifaces, few_on}
-use Rattle.reg_journal.proofs.Listed.{named_listed}
-use Rattle.reg_journal.proofs.Radios.{radio_listed}
 
 -- ---- what one interface gives
 
@@ -161,10 +155,10 @@ power_few : (db : List Domain) (J : Journal) (setting : PowerSetting) (x : Iface
 power_few db J setting x reply facts sets = by (operation_of J x.index) sets
   where
     by : (o : Option Operation) → MatchOption o
-            (Gives Ok (set_to x.index setting ∷ []) reply facts)
-            (λ o. (power : ℕ) × IsPowerOf db J (with_setting x.index setting x) o.chan power
-            × (((power ≡ o.power) × Gives Ok (set_to x.index setting ∷ []) reply facts)
-            ⊎ ((power ≢ o.power) × GivesEffects J Ok (set_to x.index setting ∷ powered x.index power ∷ []) reply facts)))
+        (Gives Ok (set_to x.index setting ∷ []) reply facts)
+        (λ o. (power : ℕ) × IsPowerOf db J (with_setting x.index setting x) o.chan power
+        × (((power ≡ o.power) × Gives Ok (set_to x.index setting ∷ []) reply facts)
+        ⊎ ((power ≢ o.power) × GivesEffects J Ok (set_to x.index setting ∷ powered x.index power ∷ []) reply facts)))
         → HasFewEffects reply
     by None gives = gives_few Ok (set_to x.index setting ∷ []) reply facts gives
     by (Some o) (power, is, inl (same, gives)) = gives_few Ok (set_to x.index setting ∷ []) reply facts gives

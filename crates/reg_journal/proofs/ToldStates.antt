@@ -1,6 +1,6 @@
 -- What is decided over each journal: whether the subchannel is quiet, whether a check stands for it, whether one has lapsed; and so
 -- there is a state.
-use Rattle.std.proofs.Common.{◌≡◌, ℕ, zero, suc, ◌+◌, ◌<◌, ◌≤◌, ◌⊎◌, List, [], ◌∷◌, ◌++◌, Contains, Option, Some, None, IsSomeAnd, IsTrue, arith, refl, sym, ap, subst, inl, inr}
+use Rattle.std.proofs.Common.{◌≡◌, ℕ, zero, suc, ◌+◌, ◌<◌, ◌≤◌, ◌⊎◌, List, [], ◌∷◌, ◌++◌, Option, Some, None, IsSomeAnd, IsTrue, arith, refl, sym, subst, inl, inr}
 use Rattle.std.proofs.lemmas.Bool.{cases_eq, cases_lt}
 use Rattle.freq_range.proofs.Deciding.{Told, Tells, tells_option, tells_through, told_as, told_both, told_le}
 use Rattle.rule_tables.specs.Regions.{region_number}
@@ -10,7 +10,7 @@ use Rattle.rule_tables.specs.declared.domain.Domain.{Domain}
 use Rattle.chan_def.specs.Covered.{IsCovered}
 use Rattle.chan_def.specs.Kinds.{initiates}
 use Rattle.chan_def.specs.declared.definition.ChanDef.{ChanDef}
-use Rattle.chan_flags.proofs.Ends.{Ends, IsOrder, Upward, ends_as, ends_either, ends_none, ends_one, upward}
+use Rattle.chan_flags.proofs.Ends.{Ends, Upward, ends_as, ends_either, ends_none, ends_one, upward}
 use Rattle.chan_flags.proofs.Existing.{told_covered, told_not, told_true}
 use Rattle.chan_flags.proofs.Told.{told_either}
 use Rattle.dfs_states.specs.Greatest.{IsGreatest}
@@ -18,7 +18,7 @@ use Rattle.dfs_states.specs.declared.dfs.Dfs.{Dfs}
 use Rattle.dfs_states.specs.declared.dfs.Dfs.TheVariants.{Usable, Unavailable, Available}
 use Rattle.dfs_states.specs.declared.moments.TheConstants.{NONOCCUPANCY_MS, UNUSED_CHECK_MS}
 use Rattle.reg_journal.specs.Applicable.{region_of}
-use Rattle.reg_journal.specs.Facts.{Fact, Journal, radar_met, check_begun, check_dropped}
+use Rattle.reg_journal.specs.Facts.{Journal, radar_met, check_begun, check_dropped}
 use Rattle.reg_journal.specs.Present.{Iface, Operation, ifaces_on, now_of, operation_of, radio_of}
 use Rattle.reg_journal.specs.Radar.{HasCheck, HasLapsed, HasRadar, IsBarred, IsKept, IsQuiet, IsState, IsUse, IsUsed, KeepsRegion, NoneStands, Stands, WasUsedAt}
 use Rattle.reg_journal.proofs.Splitting.{SomeSplit, ends_split, told_member, told_split}

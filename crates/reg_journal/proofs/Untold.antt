@@ -1,5 +1,5 @@
 -- The check last told changes where a check begins, and nowhere else.
-use Rattle.std.proofs.Common.{◌≡◌, ◌≢◌, ℕ, ◌+◌, ◌==◌, ◌⊎◌, Bool, true, false, List, [], ◌∷◌, ◌++◌, Option, Some, None, IsSomeAnd, MatchOption, option_map, if◌then◌else◌, refl, sym, ap, subst, ◌∙◌, inl, inr, eq-eqb, ne_eqb}
+use Rattle.std.proofs.Common.{◌≡◌, ◌≢◌, ℕ, ◌+◌, ◌==◌, ◌⊎◌, Bool, true, false, List, [], ◌∷◌, ◌++◌, Option, Some, None, IsSomeAnd, MatchOption, refl, sym, ap, subst, ◌∙◌, inl, inr, eq-eqb, ne_eqb}
 use Rattle.std.specs.List.{flat_map}
 use Rattle.std.specs.Option.{option_map_or}
 use Rattle.rule_tables.specs.declared.code.Alpha2.{Alpha2}
@@ -12,12 +12,10 @@ use Rattle.reg_hints.specs.Element.{IsElement}
 use Rattle.reg_hints.specs.Table.{Hinted, Treated}
 use Rattle.reg_hints.specs.declared.element.Element.{Element}
 use Rattle.reg_hints.specs.declared.hint.Hint.TheVariants.{User}
-use Rattle.radio_drv.specs.declared.on_air.CheckTold.{CheckTold}
 use Rattle.reg_journal.specs.Causes.{◌before◌}
 use Rattle.reg_journal.specs.Due.{EachMayFollow}
 use Rattle.reg_journal.specs.Dumps.{AreShownChannels, IsIfaceReport, IsRadioReport}
-use Rattle.reg_journal.specs.Effects.{effects_of}
-use Rattle.reg_journal.specs.Facts.{Fact, Journal, after, moment_is, radio_added, radio_removed, rules_are, hinted, indoor_is, radar_met, made, typed, set_to, started, stopped, powered, check_begun, ended, check_dropped}
+use Rattle.reg_journal.specs.Facts.{Fact, Journal, after, moment_is, radio_added, radio_removed, rules_are, hinted, indoor_is, radar_met, made, typed, set_to, started, stopped, powered, check_begun}
 use Rattle.reg_journal.specs.OnAir.{TellsCheck, is_on, told_of}
 use Rattle.reg_journal.specs.Permits.{IsLengthOf, IsPowerOf}
 use Rattle.reg_journal.specs.Present.{Check as RunningCheck, Iface, Operation, check_of, ifaces_of, ifaces_on, made_of, named, operation_of, with_setting}
@@ -89,10 +87,10 @@ power_untold : (db : List Domain) (J : Journal) (setting : PowerSetting) (x : If
 power_untold db J setting x reply facts sets = by (operation_of J x.index) sets
   where
     by : (o : Option Operation) → MatchOption o
-            (Gives Ok (set_to x.index setting ∷ []) reply facts)
-            (λ o. (power : ℕ) × IsPowerOf db J (with_setting x.index setting x) o.chan power
-            × (((power ≡ o.power) × Gives Ok (set_to x.index setting ∷ []) reply facts)
-            ⊎ ((power ≢ o.power) × GivesEffects J Ok (set_to x.index setting ∷ powered x.index power ∷ []) reply facts)))
+        (Gives Ok (set_to x.index setting ∷ []) reply facts)
+        (λ o. (power : ℕ) × IsPowerOf db J (with_setting x.index setting x) o.chan power
+        × (((power ≡ o.power) × Gives Ok (set_to x.index setting ∷ []) reply facts)
+        ⊎ ((power ≢ o.power) × GivesEffects J Ok (set_to x.index setting ∷ powered x.index power ∷ []) reply facts)))
         → EachTellsNothing facts
     by None (same, all) = subst EachTellsNothing (sym all) (tt, tt)
     by (Some o) (power, is, inl (same, (answer, all))) = subst EachTellsNothing (sym all) (tt, tt)
@@ -176,8 +174,7 @@ told_begun db J name c failed length effects facts due (inr (free, on)) = by (na
         let radio = radio_listed db J x due (named_listed J name x at) in
         let on_own : is_on J x.index x.radio ≡ true = ap (λ o. option_map_or (λ q. q == x.radio) o false) radio ∙ eq-eqb x.radio x.radio refl in
         let off : (r : ℕ) → r ≢ x.radio → is_on J x.index r ≡ false =
-            λ r apart. ap (λ o. option_map_or (λ q. q == r) o false) radio ∙ ne_eqb x.radio r (λ e. apart (sym e)) in
-        (
+        λ r apart. ap (λ o. option_map_or (λ q. q == r) o false) radio ∙ ne_eqb x.radio r (λ e. apart (sym e)) in (
           ap (λ fs. told_of (after fs J) x.radio) all ∙ rw on_own (ap (λ n. Some (record { iface = x.index; chan = c; length_ms = n })) (sym (same_length other same))),
           λ r apart. ap (λ fs. told_of (after fs J) r) all ∙ rw (off r apart) refl,
         )

@@ -1,15 +1,12 @@
 -- Which domains apply to a radio, and its region.
-use Rattle.std.specs.Prelude.{ℕ, ◌==◌, Bool, true, false, List, [], ◌∷◌, ◌++◌, map, find, Option, Some, None, option_and_then, if◌then◌else◌}
-use Rattle.std.specs.List.{filter_map, list_all}
+use Rattle.std.specs.Prelude.{ℕ, ◌==◌, Bool, List, [], ◌∷◌, ◌++◌, map, find, Option, Some, None, option_and_then, if◌then◌else◌}
+use Rattle.std.specs.List.{filter_map}
 use Rattle.std.specs.Option.{option_map, option_to_list}
-use Rattle.freq_range.specs.declared.flags.RuleFlags.{RuleFlags}
-use Rattle.freq_range.specs.declared.rule.Rule.{Rule}
 use Rattle.rule_tables.specs.Code.{is_same_code}
 use Rattle.rule_tables.specs.Regions.{common_region}
 use Rattle.rule_tables.specs.World.{custom_domain, world, world_domain}
 use Rattle.rule_tables.specs.declared.code.Alpha2.{Alpha2}
 use Rattle.rule_tables.specs.declared.code.Region.{Region}
-use Rattle.rule_tables.specs.declared.code.Region.TheVariants.{Unset}
 use Rattle.rule_tables.specs.declared.domain.Domain.{Domain}
 use Rattle.reg_hints.specs.Table.{Hinted, Treated, Own, State, after_all}
 use Rattle.reg_hints.specs.declared.hint.Hint.TheVariants.{User, Driver, Element}
@@ -36,11 +33,13 @@ driver_code_in (Treated (Driver q a) ∷ hints) r = if r == q then Some a else d
 driver_code_in (Treated (User a) ∷ hints) r = driver_code_in hints r
 driver_code_in (Treated (Element q a deaf) ∷ hints) r = driver_code_in hints r
 
+-- the code of the last hint of the radio's driver, or none
 abbrev pub driver_code_of : Journal → ℕ → Option Alpha2
 driver_code_of J r = driver_code_in (hinted_of J) r
 
 -- ---- domains
 
+-- the domain that was found, or, for the world's code, the built-in domain of the world
 abbrev pub or_world : Alpha2 → Option Domain → Option Domain
 or_world a (Some d) = Some d
 or_world a None = if is_same_code a world then Some world_domain else None
@@ -53,6 +52,7 @@ find_domain db a = or_world a (find (λ d. is_same_code d.alpha2 a) db)
 abbrev pub global_domains : List Domain → Journal → List Domain
 global_domains db J = filter_map (find_domain db) (hints_of J).global
 
+-- the radio takes no rules but its own
 abbrev pub is_self_managed : Journal → ℕ → Bool
 is_self_managed J r = (abilities_of J r).self_managed
 

@@ -27,6 +27,7 @@ use Rattle.reg_journal.specs.declared.report.IfaceState.TheVariants.{Idle, Check
 
 -- ---- sections
 
+-- the code that is shown of a list: that of its only domain, or the code of joined domains
 abbrev pub code_of_list : List Domain → Alpha2
 code_of_list [] = joined_code
 code_of_list (d ∷ []) = d.alpha2
@@ -46,15 +47,18 @@ AreShown [] rows = ⊥
 AreShown (d ∷ []) rows = rows ≡ map row_as_is d.rules
 AreShown (d ∷ e ∷ ds) rows = (joined : List Row) × AreRows (d ∷ e ∷ ds) joined × (rows ≡ map row_shown joined)
 
+-- the section of the list: for which radio, the list's code, its region and its rows
 pub record IsSection (radio : Option ℕ) (ds : List Domain) (region : Region) (section : Section) : Type 0 where
   pub of_radio : section.radio ≡ radio
   pub code : section.alpha2 ≡ code_of_list ds
   pub of_region : section.region ≡ region
   pub rows : AreShown ds section.rows
 
+-- the section of the global list
 abbrev pub IsGlobalSection : List Domain → Journal → Section → Type 0
 IsGlobalSection db J = IsSection None (global_domains db J) (global_region db J)
 
+-- the section of the list that applies to the radio
 abbrev pub IsRadioSection : List Domain → Journal → ℕ → Section → Type 0
 IsRadioSection db J r = IsSection (Some r) (applies db J r) (region_of db J r)
 
@@ -79,24 +83,29 @@ pub record IsShownChannel (db : List Domain) (J : Journal) (r s : ℕ) (shown : 
   pub fit : (fit : Option Fit) × IsRecord (applies db J r) s fit × (shown.0.fit ≡ option_map (fit_shown (abilities_of J r).power_mbm) fit)
   pub state : IsState db J r s shown.1
 
+-- the channels of the radio's bands, in ascending order, each as it is shown
 abbrev pub AreShownChannels : List Domain → Journal → ℕ → List (Chan × Dfs) → Type 0
 AreShownChannels db J r list = (centres : List ℕ) × AreChannels (abilities_of J r).bands centres × AllZip (IsShownChannel db J r) centres list
 
 -- ---- radios and interfaces
 
+-- an interface as a radio report names it: by name, number and kind
 abbrev pub shown_iface : Iface → List ℕ × ℕ × Kind
 shown_iface x = (x.name, x.index, x.kind)
 
+-- the report of a radio: its profile, and its interfaces in order of creation (`NL80211_CMD_NEW_WIPHY`)
 pub record IsRadioReport (J : Journal) (r : ℕ) (report : RadioReport) : Type 0 where
   pub radio : report.radio ≡ r
   pub profile : report.profile ≡ abilities_of J r
   pub ifaces : report.ifaces ≡ map shown_iface (ifaces_on J r)
 
+-- an interface's state: that of its operation, or of its running check, or idle
 abbrev pub state_of : Option Operation → Option Check → IfaceState
 state_of (Some o) k = Running o.chan o.power
 state_of None (Some k) = Checking k.chan (k.begin + k.length)
 state_of None None = Idle
 
+-- the report of an interface (`NL80211_CMD_NEW_INTERFACE`)
 pub record IsIfaceReport (J : Journal) (x : Iface) (report : IfaceReport) : Type 0 where
   pub name : report.name ≡ x.name
   pub index : report.index ≡ x.index

@@ -26,6 +26,7 @@ pub data Fact : Type 0 where
   check_begun : (iface : ℕ) (chan : ChanDef) (length : ℕ) → Fact
   check_dropped : (iface : ℕ) → Fact
 
+-- all that happened, the newest first
 abbrev pub Journal : Type 0
 Journal = List Fact
 

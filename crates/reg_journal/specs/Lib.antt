@@ -15,3 +15,6 @@ pub mod OnAir
 pub mod Due
 pub mod Granted
 pub mod Settled
+pub mod Asking
+pub mod Codes
+pub mod Rows

@@ -11,6 +11,7 @@ use Rattle.reg_journal.specs.declared.reply.Reply.{Reply}
 use Rattle.reg_journal.specs.declared.reply.Reply.TheVariants.{Plain}
 use Rattle.reg_journal.specs.Present.{operation_of, radio_of}
 
+-- an operation on air: of which interface, on which channel, with which power in mBm
 abbrev pub entry : ℕ → ChanDef → ℕ → OnAir
 entry i chan power = record { iface = i; chan = chan; power_mbm = power }
 

@@ -29,9 +29,11 @@ width_mhz c = width_khz c.width / 1000
 
 -- ---- the radio
 
+-- the radio has no channel for a subchannel
 abbrev pub LacksChannel : List Domain → Journal → Iface → ChanDef → Refusal → Type 0
 LacksChannel db J x c = AtLowest (Bars (applies db J x.radio) (asked_by J x c) Missing) c RadioLacks
 
+-- the channel is wider than the radio can operate
 abbrev pub LacksWidth : Journal → Iface → ChanDef → Refusal → Type 0
 LacksWidth J x c = Where ((abilities_of J x.radio).width_mhz < width_mhz c) (RadioLacksWidth (width_mhz c))
 
@@ -49,6 +51,7 @@ abbrev pub channel_in : Option Operation → Option Check → Option ChanDef
 channel_in (Some o) k = Some o.chan
 channel_in None k = option_map (λ (k : Check). k.chan) k
 
+-- the channel that the interface is on, if any
 abbrev pub channel_of : Journal → Iface → Option ChanDef
 channel_of J x = channel_in (operation_of J x.index) (check_of J x.index)
 

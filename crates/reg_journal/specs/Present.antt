@@ -24,6 +24,7 @@ now_of [] = 0
 now_of (moment_is moment ∷ J) = moment
 now_of (f ∷ J) = now_of J
 
+-- whether it was last said that the radios are indoors
 abbrev pub is_indoor : Journal → Bool
 is_indoor [] = false
 is_indoor (indoor_is on ∷ J) = on
@@ -48,6 +49,7 @@ profile_of (f ∷ J) r = profile_of J r
 abbrev pub no_abilities : Abilities
 no_abilities = abilities (record { ghz2 = false; ghz5 = false; ghz6 = false }) 0 0 0 0 false false
 
+-- what the radio can do, and nothing where it is not there
 abbrev pub abilities_of : Journal → ℕ → Abilities
 abilities_of J r = unwrap_or (profile_of J r) no_abilities
 
@@ -79,12 +81,15 @@ pub record Iface : Type 0 where
 abbrev pub new_iface : ℕ → List ℕ → ℕ → Kind → Iface
 new_iface i name r kind = record { index = i; name = name; radio = r; kind = kind; setting = Auto }
 
+-- the interface of this number gets the kind; others stay
 abbrev pub with_kind : ℕ → Kind → Iface → Iface
 with_kind i kind x = if x.index == i then record x { kind = kind } else x
 
+-- the interface of this number gets the power setting; others stay
 abbrev pub with_setting : ℕ → PowerSetting → Iface → Iface
 with_setting i setting x = if x.index == i then record x { setting = setting } else x
 
+-- it is not the interface of this number
 abbrev pub is_apart : ℕ → Iface → Bool
 is_apart i x = not (x.index == i)
 
@@ -128,6 +133,7 @@ pub record Operation : Type 0 where
   pub chan : ChanDef
   pub power : ℕ
 
+-- the operation goes on with this power, in mBm
 abbrev pub operation_with_power : ℕ → Operation → Operation
 operation_with_power power o = record { chan = o.chan; power = power }
 

@@ -116,6 +116,7 @@ NoneStands db J r s = (end : ℕ) → Stands db J r s end → ⊥
 
 -- ---- the state of a subchannel
 
+-- the state of a subchannel: unavailable until its nonoccupancy ends, available since its last check that stands, or usable
 abbrev pub IsState : List Domain → Journal → ℕ → ℕ → Dfs → Type 0
 IsState db J r s (Unavailable until) = IsGreatest (IsBarred J r s) until × (now_of J < until)
 IsState db J r s (Available since) = IsQuiet J r s × IsGreatest (Stands db J r s) since

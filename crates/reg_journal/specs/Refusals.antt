@@ -28,12 +28,15 @@ use Rattle.reg_journal.specs.declared.refusal.Refusal.TheVariants.{MomentBack, M
 
 -- ---- moments and radios
 
+-- what speaks against a moment: it is above the last one that there is, or before the present one
 abbrev pub MomentCauses : Journal → ℕ → Refusal → Type 0
 MomentCauses J m = Where (LAST_MOMENT_MS < m) (MomentTooLarge m) before Where (m < now_of J) (MomentBack (now_of J))
 
+-- the radio is not there
 abbrev pub LacksRadio : Journal → ℕ → Refusal → Type 0
 LacksRadio J r = Where (profile_of J r ≡ None) (NoRadio r)
 
+-- the number was used before; it is never used again
 abbrev pub RadioAddCauses : Journal → ℕ → Refusal → Type 0
 RadioAddCauses J r = Where (IsTrue (is_used J r)) (SlotUsed r)
 
@@ -56,6 +59,7 @@ RowCauses lists = λ e. (k : ℕ) × IsFirst (IsTooLongAt lists) k
 abbrev pub all_lists : List Domain → Journal → List (List Domain)
 all_lists db J = global_domains db J ∷ map (applies db J) (radios_of J)
 
+-- what speaks against custom rules: their number, the first that is not valid, and too many rows with them
 abbrev pub RulesCauses : List Domain → Journal → ℕ → List Rule → Refusal → Type 0
 RulesCauses db J r rules =
     LacksRadio J r
@@ -66,6 +70,7 @@ RulesCauses db J r rules =
 
 -- ---- hints
 
+-- what speaks against the body of a country element, by its first fault
 abbrev pub ElementCauses : List ℕ → Refusal → Type 0
 ElementCauses body =
     (λ e. (n : ℕ) × IsElementFault body (Short n) × (e ≡ ElementShort n))
@@ -86,12 +91,14 @@ HintCauses db J a hint =
 
 -- ---- interfaces
 
+-- what speaks against a new interface: no radio, its name, and too many interfaces, on the radio or ever
 abbrev pub IfaceAddCauses : Journal → ℕ → List ℕ → Refusal → Type 0
 IfaceAddCauses J r name =
     LacksRadio J r
     before Where (IsSome (named J name)) (NameTaken name)
     before Where ((MOST_IFACES ≤ length (ifaces_on J r)) ⊎ (most_made ≤ made_of J)) Full
 
+-- no interface has this name
 abbrev pub LacksIface : Journal → List ℕ → Refusal → Type 0
 LacksIface J name = Where (named J name ≡ None) (NoInterface name)
 
@@ -103,6 +110,7 @@ OnIface J name causes = LacksIface J name before (λ e. IsSomeAnd (named J name)
 abbrev pub IsInUse : Journal → Iface → Type 0
 IsInUse J x = IsSome (operation_of J x.index) ⊎ IsSome (check_of J x.index)
 
+-- what speaks against a new type: the interface operates or checks
 abbrev pub SetTypeCauses : Journal → List ℕ → Refusal → Type 0
 SetTypeCauses J name = OnIface J name (λ x. Where (IsInUse J x) Busy)
 
@@ -111,14 +119,17 @@ abbrev pub SetPowerCauses : List Domain → Journal → List ℕ → PowerSettin
 SetPowerCauses db J name setting = OnIface J name (λ x e. IsSomeAnd (operation_of J x.index)
     (λ o. (limit : ℕ) × IsLimitOf db J x o.chan limit × IsAbove setting limit × (e ≡ Power limit)))
 
+-- what speaks against a stop: the interface is of another type, or does not operate
 abbrev pub StopCauses : Journal → List ℕ → Kind → Refusal → Type 0
 StopCauses J name kind = OnIface J name (λ x. Where (x.kind ≢ kind) WrongType before Where (operation_of J x.index ≡ None) NotRunning)
 
 -- ---- starts and checks
 
+-- the radio's driver failed
 abbrev pub FailsDriver : Bool → Refusal → Type 0
 FailsDriver failed = Where (IsTrue failed) DriverFailed
 
+-- the definition of the channel is not valid
 abbrev pub InvalidChannel : ChanDef → Refusal → Type 0
 InvalidChannel c = Where (IsValidDef c → ⊥) BadChannel
 
@@ -126,6 +137,7 @@ InvalidChannel c = Where (IsValidDef c → ⊥) BadChannel
 abbrev pub InUseFor : Journal → Iface → Kind → Type 0
 InUseFor J x kind = IsSome (check_of J x.index) ⊎ (IsSome (operation_of J x.index) × (kind ≢ Monitor))
 
+-- what speaks against a start, in the order in which it is asked; whether the driver failed comes last
 abbrev pub StartCauses : List Domain → Journal → List ℕ → Kind → ChanDef → Bool → Refusal → Type 0
 StartCauses db J name kind c failed = OnIface J name (λ x.
     Where (x.kind ≢ kind) WrongType
@@ -134,6 +146,7 @@ StartCauses db J name kind c failed = OnIface J name (λ x.
     before BarsOperation db J x c
     before FailsDriver failed)
 
+-- what speaks against a check for radar, in the order in which it is asked; whether the driver failed comes last
 abbrev pub CheckCauses : List Domain → Journal → List ℕ → ChanDef → Bool → Refusal → Type 0
 CheckCauses db J name c failed = OnIface J name (λ x.
     Where (IsTrue (initiates x.kind) → ⊥) WrongType
@@ -143,5 +156,6 @@ CheckCauses db J name c failed = OnIface J name (λ x.
     before Where (HasNothingToCheck db J x c) NothingToCheck
     before FailsDriver failed)
 
+-- what speaks against a radar event: no radio, or no channel
 abbrev pub RadarCauses : Journal → ℕ → ChanDef → Refusal → Type 0
 RadarCauses J r c = LacksRadio J r before InvalidChannel c

@@ -1,5 +1,5 @@
 -- What the types of a request say of its parts.
-use Rattle.std.specs.Prelude.{◌≡◌, ℕ, ◌^◌, ◌<◌, ◌≤◌, List, All, None}
+use Rattle.std.specs.Prelude.{ℕ, ◌^◌, ◌<◌, ◌≤◌, All}
 use Rattle.freq_range.specs.declared.rule.Rule.{Rule}
 use Rattle.rule_tables.specs.declared.code.Alpha2.{Alpha2}
 use Rattle.chan_def.specs.declared.definition.ChanDef.{ChanDef}

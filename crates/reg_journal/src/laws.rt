@@ -1,14 +1,19 @@
 //! Laws over all journals.
 
-ghost use Rattle.std.specs.Prelude.{◌≡◌, ◌≢◌, ◌↔◌, ℕ, AllPairs, IsTrue, ◌⊎◌, List, [], ◌∷◌, Bool, false, Contains, Some, IsSomeAnd};
+ghost use Rattle.std.specs.Prelude.{◌≡◌, ◌≢◌, ◌↔◌, ℕ, ◌<◌, ◌≤◌, AllPairs, IsTrue, ◌⊎◌, List, [], ◌∷◌, Bool, false, Contains, Some, IsSomeAnd, Option, Result};
 ghost use Rattle.rule_tables.specs.declared.code.Region.TheVariants.{Etsi};
+ghost use Rattle.rule_tables.specs.Databases.{IsDb};
 ghost use Rattle.rule_tables.specs.declared.domain.Domain.{Domain};
+ghost use Rattle.chan_def.specs.Covered.{IsCovered};
+ghost use Rattle.chan_flags.specs.Profiles.{Abilities};
 ghost use Rattle.chan_def.specs.declared.definition.ChanDef.{ChanDef};
 ghost use Rattle.chan_def.specs.declared.kind.Kind.{Kind};
 ghost use Rattle.dfs_states.specs.declared.dfs.Dfs.{Dfs};
 ghost use Rattle.radio_drv.specs.declared.on_air.OnAir.{OnAir};
 ghost use Rattle.reg_journal.specs.Applicable.{region_of};
+ghost use Rattle.reg_journal.specs.Asking.{IsStateOn, WouldCheck, WouldStart};
 ghost use Rattle.reg_journal.specs.Causes.{IsFree};
+ghost use Rattle.reg_journal.specs.Codes.{code_and_errno};
 ghost use Rattle.reg_journal.specs.Due.{EachMayFollow};
 ghost use Rattle.reg_journal.specs.Effects.{HasFewEffects};
 ghost use Rattle.reg_journal.specs.Facts.{Fact, Journal, after, started};
@@ -16,11 +21,13 @@ ghost use Rattle.reg_journal.specs.Granted.{IsGranted, IsStartable};
 ghost use Rattle.reg_journal.specs.OnAir.{StartedBefore, TellsCheck, is_on, on_air_of, told_of};
 ghost use Rattle.reg_journal.specs.Permits.{BarsOperation, IsPowerOf};
 ghost use Rattle.reg_journal.specs.Present.{Iface, ifaces_of, ifaces_on, named, operation_of};
-ghost use Rattle.reg_journal.specs.Radar.{HasLapsed, IsState};
+ghost use Rattle.reg_journal.specs.Radar.{HasLapsed, IsQuiet, IsState, NoneStands, Stands};
 ghost use Rattle.reg_journal.specs.Replies.{IsRegular, Replies};
+ghost use Rattle.reg_journal.specs.Rows.{checked_row, radar_row};
 ghost use Rattle.reg_journal.specs.Settled.{AreSettled, IsSettled};
 ghost use Rattle.reg_journal.specs.Sweep.{AreSwept};
 ghost use Rattle.reg_journal.specs.declared.effects.Effect.{Effect};
+ghost use Rattle.reg_journal.specs.declared.refusal.Refusal.{Refusal};
 ghost use Rattle.reg_journal.specs.declared.reply.Answer.TheVariants.{Checking, Started};
 ghost use Rattle.reg_journal.specs.declared.reply.Reply.{Reply};
 ghost use Rattle.reg_journal.specs.declared.reply.Reply.TheVariants.{Plain};
@@ -31,6 +38,12 @@ ghost use Rattle.reg_journal.specs.declared.request.Request.{Request};
 pub fn one_reply()
     ensures { (db : List Domain) (journal : Journal) (q : Request) (failed : Bool) (one other : Reply) (facts others : List Fact)
         → Replies db journal q failed one facts → Replies db journal q failed other others → (one ≡ other) × (facts ≡ others) }
+{}
+
+/// Over a database, and a journal each fact of which came where it might, there is a reply to each request.
+pub fn some_reply()
+    ensures { (db : List Domain) (journal : Journal) (q : Request) (failed : Bool) → IsDb db → EachMayFollow db journal
+        → (reply : Reply) × (facts : List Fact) × Replies db journal q failed reply facts }
 {}
 
 /// There is one state for each subchannel over each journal.
@@ -112,4 +125,45 @@ pub fn on_air_in_order()
     ensures once { (db : List Domain) (journal : Journal) (r : ℕ) → EachMayFollow db journal → AllPairs (λ a b. a.iface ≢ b.iface) (on_air_of journal r) }
     ensures order { (db : List Domain) (journal : Journal) (r : ℕ) → EachMayFollow db journal
         → AllPairs (λ a b. StartedBefore journal a.iface b.iface) (on_air_of journal r) }
+{}
+
+/// There is one answer to what a start would come to, and to what a check would.
+pub fn one_forecast()
+    ensures some_start { (db : List Domain) (journal : Journal) (name : List ℕ) (kind : Kind) (c : ChanDef)
+        → (answer : Result ℕ Refusal) × WouldStart db journal name kind c answer }
+    ensures one_start { (db : List Domain) (journal : Journal) (name : List ℕ) (kind : Kind) (c : ChanDef) (one other : Result ℕ Refusal)
+        → WouldStart db journal name kind c one → WouldStart db journal name kind c other → one ≡ other }
+    ensures some_check { (db : List Domain) (journal : Journal) (name : List ℕ) (c : ChanDef)
+        → (answer : Result (ℕ × ℕ) Refusal) × WouldCheck db journal name c answer }
+    ensures one_check { (db : List Domain) (journal : Journal) (name : List ℕ) (c : ChanDef) (one other : Result (ℕ × ℕ) Refusal)
+        → WouldCheck db journal name c one → WouldCheck db journal name c other → one ≡ other }
+{}
+
+/// There is one answer to the state of each centre: none exactly where the radio isn't there.
+pub fn one_state_of_each_centre()
+    ensures some { (db : List Domain) (journal : Journal) (r s : ℕ) → (answer : Option Dfs) × IsStateOn db journal r s answer }
+    ensures one { (db : List Domain) (journal : Journal) (r s : ℕ) (one other : Option Dfs)
+        → IsStateOn db journal r s one → IsStateOn db journal r s other → one ≡ other }
+{}
+
+/// The code of each refusal is from 20 to 54, and its errno isn't 0.
+pub fn refusals_have_codes()
+    ensures { (e : Refusal) → (20 ≤ (code_and_errno e).0) × ((code_and_errno e).0 ≤ 54) × (0 < (code_and_errno e).1) }
+{}
+
+/// A check of 60,000 ms that began at 0 stands at 60,000 ms and not at 59,999. Outside ETSI, and unused, it
+/// stands at 61,999 ms and not at 62,000.
+pub fn check_of_a_minute()
+    ensures early { (db : List Domain) (profile : Abilities) (name : List ℕ) (c : ChanDef) (moment s : ℕ) → moment < 60000
+        → NoneStands db (checked_row profile name c moment) 0 s }
+    ensures stands { (db : List Domain) (profile : Abilities) (name : List ℕ) (c : ChanDef) (moment s : ℕ) → IsCovered c s → 60000 ≤ moment → moment < 62000
+        → Stands db (checked_row profile name c moment) 0 s 60000 }
+    ensures lapsed { (db : List Domain) (profile : Abilities) (name : List ℕ) (c : ChanDef) (moment s : ℕ) → 62000 ≤ moment
+        → region_of db (checked_row profile name c moment) 0 ≢ Etsi → NoneStands db (checked_row profile name c moment) 0 s }
+{}
+
+/// After radar at 70,000 ms the channel's subchannels are quiet at 1,870,000 ms, and not at 1,869,999.
+pub fn nonoccupancy_of_half_an_hour()
+    ensures quiet { (profile : Abilities) (c : ChanDef) (moment s : ℕ) → 1870000 ≤ moment → IsQuiet (radar_row profile c moment) 0 s }
+    ensures barred { (profile : Abilities) (c : ChanDef) (moment s : ℕ) → IsCovered c s → moment < 1870000 → IsQuiet (radar_row profile c moment) 0 s → ⊥ }
 {}

@@ -6,7 +6,7 @@ use Rattle.std.proofs.Math.Logic.{∥∥₁_elim, ∥∥₁_map}
 use lib.ListN.{get_elem?}
 use Rattle.std.specs.Coded.{Coded, Coded-set, le_prop}
 use Rattle.rule_publish.specs.declared.rule.View.{View}
-use Rattle.rule_publish.specs.inner.Views.{known, Suits, Keeps, Sees, later, Rose}
+use Rattle.rule_publish.specs.inner.Views.{known, Suits, EachSuits, Sees, later, ViewRose}
 use Rattle.rule_publish.proofs.Steps.{sees}
 
 module _ {N : Type 0} where
@@ -15,13 +15,13 @@ module _ {N : Type 0} where
   same_name code name name' m v named suits = ∥∥₁_elim named (Coded-set code name' name) (λ e. sym (suits.1 name e))
 
   -- a seat whose number rose and whose name stayed knows the kept value still
-  pub risen : (n : ℕ) (name : N) (v w : View N) → n ≤ v.number → ∥ v.name ≡ Some name ∥₁ → Rose v w → (n ≤ w.number) × ∥ w.name ≡ Some name ∥₁
+  pub risen : (n : ℕ) (name : N) (v w : View N) → n ≤ v.number → ∥ v.name ≡ Some name ∥₁ → ViewRose v w → (n ≤ w.number) × ∥ w.name ≡ Some name ∥₁
   risen n name v w low named rose = (le_trans low rose.0, ∥∥₁_map named (λ e. rose.1 name e))
 
 module _ {V N : Type 0} (number : V → ℕ) (name : V → N) where
   -- a publish of the last value
-  pub turns : (shown last next : V) (views : List (View N)) (seat : ℕ) (v : View N) → number shown ≤ number last → name last ≡ name shown → next ≡ last → Keeps (number shown) (name shown) views →
-      get_elem? views seat ≡ some v → (w : View N) × Keeps (number next) (name next) (set views seat w) × Sees (number shown) (name shown) (number next) (name next) v w
+  pub turns : (shown last next : V) (views : List (View N)) (seat : ℕ) (v : View N) → number shown ≤ number last → name last ≡ name shown → next ≡ last → EachSuits (number shown) (name shown) views →
+      get_elem? views seat ≡ some v → (w : View N) × EachSuits (number next) (name next) (set views seat w) × Sees (number shown) (name shown) (number next) (name next) v w
   turns shown last next views seat v up same is keeps at =
       sees (number shown) (number next) (name shown) (name next) views seat v (subst (λ x. number shown ≤ number x) (sym is) up) (ap name is ∙ same) keeps at
 

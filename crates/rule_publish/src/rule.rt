@@ -1,6 +1,6 @@
 //! The rule of a board, which each of its four kinds of step keeps: publish, look, tell and learn.
 ghost use Rattle.std.specs.Arc.{arc_value};
-ghost use Rattle.rule_publish.specs.inner.Views.{fresh, Keeps, Sees, later};
+ghost use Rattle.rule_publish.specs.inner.Views.{fresh, EachSuits, Sees, later};
 
 use crate::numbered::Numbered;
 use crate::sheet::Sheet;
@@ -18,7 +18,7 @@ pub struct View<N> {
 pub struct Rises;
 
 impl<V: Numbered + Drop> Protocol<Sheet<V>, View<V::Name>> for Rises {
-    ghost holds = { λ s. Keeps (V.number (arc_value s.value)) (V.name (arc_value s.value)) };
+    ghost holds = { λ s. EachSuits (V.number (arc_value s.value)) (V.name (arc_value s.value)) };
 
     ghost first = { fresh };
 }

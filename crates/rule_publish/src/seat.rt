@@ -2,7 +2,7 @@
 ghost use Rattle.std.specs.Prelude.{◌≡◌, ◌≤◌, Some, MatchOption};
 ghost use Rattle.std.specs.Arc.{arc_value};
 ghost use Rattle.left_right.specs.Sides.{view};
-ghost use Rattle.rule_publish.specs.inner.Views.{known, Suits, Rose};
+ghost use Rattle.rule_publish.specs.inner.Views.{known, Suits, ViewRose};
 
 use crate::numbered::Numbered;
 use crate::rule::{Looks, Rises, View};
@@ -29,7 +29,7 @@ fn glance<V: Numbered + Drop>(
     Reader<Sheet<V>, View<V::Name>, Rises>,
     Option<Arc<V, Global>>,
 )
-    ensures seen { MatchOption result.1 (Rose (view reader.place) (view result.0.place)) (λ a. Suits (V.number (arc_value a)) (V.name (arc_value a)) (view reader.place) × (view result.0.place ≡ known (V.number (arc_value a)) (V.name (arc_value a)))) }
+    ensures seen { MatchOption result.1 (ViewRose (view reader.place) (view result.0.place)) (λ a. Suits (V.number (arc_value a)) (V.name (arc_value a)) (view reader.place) × (view result.0.place ≡ known (V.number (arc_value a)) (V.name (arc_value a)))) }
 {
     match reader.enter_as::<Looks>() {
         Ok(reading) => {

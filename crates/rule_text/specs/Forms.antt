@@ -39,6 +39,7 @@ pub data Block : Type 0 where
   OfCountries : List Alpha2 → Block
   OfName : List ℕ → Block
 
+-- the block in which the next line stands: that of the last header above
 abbrev pub block_of : List Form → Block
 block_of [] = NoBlock
 block_of (Country cs region ∷ above) = OfCountries cs
@@ -47,6 +48,7 @@ block_of (form ∷ above) = block_of above
 
 -- ---- WMM rules
 
+-- both names have the same bytes, as a test
 abbrev pub same_name : List ℕ → List ℕ → Bool
 same_name name other = pointwise nat_eq name other
 
@@ -54,9 +56,11 @@ same_name name other = pointwise nat_eq name other
 abbrev pub unnamed : WmmEntry
 unnamed = record { min_exp = 0; max_exp = 0; aifsn = 0; cot_ms = 0 }
 
+-- a WMM rule of which no item is named yet
 abbrev pub no_items : Wmm
 no_items = record { vo_c = unnamed; vi_c = unnamed; be_c = unnamed; bk_c = unnamed; vo_ap = unnamed; vi_ap = unnamed; be_ap = unnamed; bk_ap = unnamed }
 
+-- the entry of this item
 abbrev pub item_entry : Item → Wmm → WmmEntry
 item_entry VoC w = w.vo_c
 item_entry ViC w = w.vi_c
@@ -67,6 +71,7 @@ item_entry ViAp w = w.vi_ap
 item_entry BeAp w = w.be_ap
 item_entry BkAp w = w.bk_ap
 
+-- the rule with this entry for the item
 abbrev pub with_entry : Item → WmmEntry → Wmm → Wmm
 with_entry VoC e w = record w { vo_c = e }
 with_entry ViC e w = record w { vi_c = e }
@@ -93,6 +98,7 @@ wmm_of_name name (form ∷ above) = wmm_of_name name above
 
 -- ---- rules of countries
 
+-- both codes have the same bytes, as a test
 abbrev pub same_code : Alpha2 → Alpha2 → Bool
 same_code c d = c.a == d.a && c.b == d.b
 

@@ -22,6 +22,7 @@ pub record AreIdle (n : ℕ) (heard : List (Option Seen)) : Type 0 where
 abbrev pub AreSteady : List (Option Seen) → Type 0
 AreSteady heard = (r : ℕ) (s : Seen) → driver_at heard r ≡ Some s → IsTrue s.steady
 
+-- the driver of this radio may fail
 abbrev pub IsUnsteady : List (Option Seen) → ℕ → Type 0
 IsUnsteady heard r = IsSomeAnd (driver_at heard r) (λ s. s.steady ≡ false)
 

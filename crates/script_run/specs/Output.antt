@@ -38,6 +38,7 @@ SayingGives db J (Ok (Some q)) text failed next =
     (reply : Reply) × Answers db J q reply next × IsTextOf reply text × HaveFailed (is_failed reply) (driven_radio J q) failed
 SayingGives db J (Err fault) text failed next = (text ≡ line_fault_text fault) × (failed ≡ []) × (next ≡ J)
 
+-- what a line writes, and the journal behind it: the one reply of its request, the text of its fault, or nothing
 abbrev pub LineGives : List Domain → Journal → List ℕ → List ℕ → List ℕ → Journal → Type 0
 LineGives db J line text failed next = (said : Result (Option Request) LineFault) × Says line said × SayingGives db J said text failed next
 

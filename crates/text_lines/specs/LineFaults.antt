@@ -49,6 +49,7 @@ IsHeaderKind line BadRegion =
     ((cs : List Alpha2) × (rest : List ℕ) × HasCodes line cs rest) × ((cs : List Alpha2) (region : Region) → IsHeader line cs region → ⊥)
 IsHeaderKind line kind = ⊥
 
+-- why the line is read as no header: a kind of fault, or out of memory
 abbrev pub IsHeaderStop : List ℕ → LineStop → Type 0
 IsHeaderStop line (Kind kind) = IsHeaderKind line kind
 IsHeaderStop line OutOfMemory = Unit {0}
@@ -92,6 +93,7 @@ AppliesToRule line BadFlag = (t : RuleText) (rule : Rule) → IsSpelledRule (bar
 AppliesToRule line FlagNotInVersion = HasUnkeptFlag (bare line)
 AppliesToRule line kind = ⊥
 
+-- this kind of fault applies to the line, and none of those before it does
 pub record IsRuleTextFault (line : List ℕ) (kind : TextKind) : Type 0 where
   pub applies : AppliesToRule line kind
   pub first : (other : TextKind) → place_of_kind other < place_of_kind kind → AppliesToRule line other → ⊥

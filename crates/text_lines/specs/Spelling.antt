@@ -19,6 +19,7 @@ use Rattle.text_lines.specs.declared.form.Opening.TheVariants.{Country as OfCoun
 
 -- ---- how a line begins
 
+-- the name of an item of a WMM rule
 abbrev pub item_name : Item → List ℕ
 item_name VoC = codes "vo_c"
 item_name ViC = codes "vi_c"
@@ -42,6 +43,7 @@ Opens line opening = (rest : List ℕ) × (line ≡ opening_text opening ++ rest
 
 -- ---- headers
 
+-- the name of a region; none has no name
 abbrev pub region_name : Region → List ℕ
 region_name Unset = []
 region_name Fcc = codes "DFS-FCC"
@@ -71,6 +73,7 @@ IsHeader line cs region = HasCodes line cs (region_name region)
 abbrev pub IsNameByte : ℕ → Type 0
 IsNameByte b = ((65 ≤ b) × (b ≤ 90)) ⊎ ((97 ≤ b) × (b ≤ 122)) ⊎ ((48 ≤ b) × (b ≤ 57)) ⊎ (b ≡ 95) ⊎ (b ≡ 45)
 
+-- the name of a WMM rule: 1 to 64 bytes that may stand in one
 pub record IsWmmName (name : List ℕ) : Type 0 where
   pub some : 0 < length name
   pub few : length name ≤ 64
@@ -83,6 +86,7 @@ pub record IsWmmHeader (line name : List ℕ) : Type 0 where
 
 -- ---- numbers
 
+-- a digit of ASCII
 abbrev pub IsDigit : ℕ → Type 0
 IsDigit b = (48 ≤ b) × (b ≤ 57)
 
@@ -105,6 +109,7 @@ abbrev pub fraction_text : List ℕ → List ℕ
 fraction_text [] = []
 fraction_text (d ∷ ds) = codes "." ++ d ∷ ds
 
+-- the digits before the point, and the point with the digits behind it where there are some
 abbrev pub decimal_text : Decimal → List ℕ
 decimal_text n = n.whole ++ fraction_text n.fraction
 
@@ -127,6 +132,7 @@ pub record ItemText : Type 0 where
   pub aifsn : List ℕ
   pub cot : List ℕ
 
+-- an item as it stands in a line
 abbrev pub item_text : Item → ItemText → List ℕ
 item_text item t =
     item_name item ++ codes ":cw_min=" ++ t.cw_min ++ codes ",cw_max=" ++ t.cw_max ++ codes ",aifsn=" ++ t.aifsn ++ codes ",cot=" ++ t.cot
@@ -179,6 +185,7 @@ pub data Gain : Type 0 where
   UnknownGain : Gain
   ZeroGain : Gain
 
+-- the gain as it stands in a line
 abbrev pub gain_text : Gain → List ℕ
 gain_text NoGain = []
 gain_text UnknownGain = codes "N/A,"
@@ -189,6 +196,7 @@ pub data Power : Type 0 where
   Dbm : Decimal → Power
   Milliwatts : List ℕ → Power
 
+-- the power as it stands in a line
 abbrev pub power_text : Power → List ℕ
 power_text (Dbm n) = decimal_text n
 power_text (Milliwatts digits) = digits ++ codes "mW"
@@ -202,6 +210,7 @@ IsPower (Milliwatts digits) mbm = IsNumber digits × IsMbm (value_of_digits digi
 abbrev pub power_part : Gain → Power → List ℕ
 power_part gain power = codes ",(" ++ gain_text gain ++ power_text power ++ codes ")"
 
+-- the name of a flag
 abbrev pub flag_name : Flag → List ℕ
 flag_name NoOfdm = codes "NO-OFDM"
 flag_name NoOutdoor = codes "NO-OUTDOOR"
@@ -218,10 +227,12 @@ pub data Word : Type 0 where
   OfFlag : Flag → Word
   OfName : List ℕ → Word
 
+-- how the word is spelled
 abbrev pub word_text : Word → List ℕ
 word_text (OfFlag flag) = flag_name flag
 word_text (OfName name) = codes "wmmrule=" ++ name
 
+-- a flag, or a name that a WMM rule may have
 abbrev pub IsWord : Word → Type 0
 IsWord (OfFlag flag) = Unit {0}
 IsWord (OfName name) = IsWmmName name
@@ -244,10 +255,12 @@ HasBit PtpOnly = ⊥
 HasBit PtmpOnly = ⊥
 HasBit flag = Unit {0}
 
+-- a flag that a file keeps, or the name of a WMM rule
 abbrev pub IsKeptWord : Word → Type 0
 IsKeptWord (OfFlag flag) = HasBit flag
 IsKeptWord (OfName name) = Unit {0}
 
+-- no flag is set
 abbrev pub no_flags : RuleFlags
 no_flags = record { no_ofdm = false; no_outdoor = false; dfs = false; no_ir = false; auto_bw = false }
 
@@ -260,6 +273,7 @@ with_flag NoIr flags = record flags { no_ir = true }
 with_flag AutoBw flags = record flags { auto_bw = true }
 with_flag flag flags = flags
 
+-- the flags with that of the word
 abbrev pub with_word : Word → RuleFlags → RuleFlags
 with_word (OfFlag flag) flags = with_flag flag flags
 with_word (OfName name) flags = flags
@@ -289,6 +303,7 @@ pub record AreWords (line : List ℕ) (words : List Word) : Type 0 where
   pub one_name : length (names_in words) ≤ 1
   pub spelled : line ≡ words_text words
 
+-- a list of the one part, or of none
 abbrev pub list_of : Option (List ℕ) → List (List ℕ)
 list_of None = []
 list_of (Some name) = name ∷ []

@@ -11,7 +11,7 @@ use Rattle.reg_journal.specs.Facts.{Journal}
 use Rattle.chan_def.specs.Same.{is_same_channel}
 use Rattle.reg_journal.specs.Permits.{channel_of}
 use Rattle.reg_journal.specs.Present.{Check, Iface, check_of, ifaces_of, is_apart}
-use Rattle.reg_core.specs.Calls.{calls_of}
+use Rattle.reg_core.specs.Calls.{calls_of, opening_of}
 use Rattle.reg_core.specs.Kept.{kept}
 use Rattle.reg_core.specs.declared.interface.Interface.{Interface}
 
@@ -21,7 +21,7 @@ pub record IsOf (db : List Domain) (J : Journal) (x : Iface) (book : Book) (inte
   pub there : Contains (ifaces_of J) x
   pub interface_is : interface ≡ kept J x
   pub channels : List ℕ
-  pub book_is : BookStandsFor book channels (calls_of db J x.radio)
+  pub book_is : BookStandsFor book channels (opening_of db x.radio) (calls_of db J x.radio)
 
 -- and the other interface is kept of the interface y, which is there too
 pub record IsBeside (db : List Domain) (J : Journal) (x y : Iface) (book : Book) (interface other : Interface) : Type 0 where

@@ -23,8 +23,8 @@ module _ {N : Type 0} where
   Suits number name v = (v.number ≤ number) × ((n : N) → v.name ≡ Some n → n ≡ name)
 
   -- the rule: the value of this number and name is shown, and the view of each seat suits it
-  abbrev pub Keeps : ℕ → N → List (View N) → Type 0
-  Keeps number name views = (seat : ℕ) (v : View N) → get_elem? views seat ≡ some v → Suits number name v
+  abbrev pub EachSuits : ℕ → N → List (View N) → Type 0
+  EachSuits number name views = (seat : ℕ) (v : View N) → get_elem? views seat ≡ some v → Suits number name v
 
   -- a look or a publish: the view suits what was shown before, and then it is that of what is shown after
   abbrev pub Sees : ℕ → N → ℕ → N → View N → View N → Type 0
@@ -35,5 +35,5 @@ module _ {N : Type 0} where
   later v w = record { number = max v.number w.number; name = later_name v.name w.name }
 
   -- the number doesn't fall, and the name stays
-  abbrev pub Rose : View N → View N → Type 0
-  Rose v w = (v.number ≤ w.number) × ((n : N) → v.name ≡ Some n → w.name ≡ Some n)
+  abbrev pub ViewRose : View N → View N → Type 0
+  ViewRose v w = (v.number ≤ w.number) × ((n : N) → v.name ≡ Some n → w.name ≡ Some n)

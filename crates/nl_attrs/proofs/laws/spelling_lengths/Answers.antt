@@ -1,4 +1,3 @@
-use Rattle.std.proofs.Common.{[], sym, ap, ◌∙◌, ◌++◌, length, List, ℕ}
 use Rattle.nl_attrs.proofs.Lengths.{length-attr_bytes}
 use Rattle.nl_attrs.proofs.MsgLaws.{length-msg, words-msg, length_stated}
 use Rattle.nl_attrs.proofs.ByteLaws.{AreBytes-attr, AreBytes-msg}

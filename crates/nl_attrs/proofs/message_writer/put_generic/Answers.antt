@@ -1,4 +1,4 @@
-use Rattle.std.proofs.Common.{append_assoc, arith}
+use Rattle.std.proofs.Common.{arith}
 use Rattle.nl_attrs.proofs.Written.{generic_is}
 use Rattle.nl_attrs.proofs.HeadLaws.{short_each}
 use Rattle.nl_attrs.proofs.message_writer.put_generic.Goals as goal

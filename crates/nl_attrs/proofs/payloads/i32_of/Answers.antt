@@ -1,5 +1,5 @@
 use Rattle.std.proofs.Common.{length, Some, ap, ◌∙◌, arith}
-use Rattle.std.specs.Int.{w32, cast_unsigned, cast_signed}
+use Rattle.std.specs.Int.{w32, cast_unsigned}
 use Rattle.std.proofs.lemmas.Int.{to_z-of_z}
 use Rattle.nl_attrs.proofs.Lengths.{length-le32}
 use Rattle.nl_attrs.proofs.ReadNumbers.{whole_signed, read_signed}

@@ -1,4 +1,4 @@
-use Rattle.std.proofs.Common.{length, Some, sym, ap, ◌∙◌, arith}
+use Rattle.std.proofs.Common.{length, Some, ap, ◌∙◌, arith}
 use Rattle.nl_attrs.proofs.Lengths.{length-le16}
 use Rattle.nl_attrs.proofs.ReadNumbers.{whole16, read16}
 use Rattle.nl_attrs.proofs.payloads.u16_of.Goals as goal

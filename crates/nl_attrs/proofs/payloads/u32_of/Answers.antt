@@ -1,4 +1,4 @@
-use Rattle.std.proofs.Common.{length, Some, sym, ap, ◌∙◌, arith}
+use Rattle.std.proofs.Common.{length, Some, ap, ◌∙◌, arith}
 use Rattle.nl_attrs.proofs.Lengths.{length-le32}
 use Rattle.nl_attrs.proofs.ReadNumbers.{whole32, read32}
 use Rattle.nl_attrs.proofs.payloads.u32_of.Goals as goal

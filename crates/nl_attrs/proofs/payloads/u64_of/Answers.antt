@@ -1,4 +1,4 @@
-use Rattle.std.proofs.Common.{length, Some, sym, ap, ◌∙◌, arith}
+use Rattle.std.proofs.Common.{length, Some, ap, ◌∙◌, arith}
 use Rattle.nl_attrs.proofs.Lengths.{length-le64}
 use Rattle.nl_attrs.proofs.ReadNumbers.{whole64, read64}
 use Rattle.nl_attrs.proofs.payloads.u64_of.Goals as goal

@@ -2,6 +2,7 @@ use Rattle.std.proofs.Common.{◌≡◌, ◌∷◌, not, sym, ap, ◌∙◌}
 use Rattle.chan_flags.specs.Profiles.{Abilities}
 use Rattle.reg_hints.specs.Table.{Treated}
 use Rattle.rule_tables.specs.Regions.{is_same_region}
+use Rattle.rule_tables.specs.declared.code.Region.TheVariants.{Etsi}
 use Rattle.reg_journal.specs.Applicable.{region_of}
 use Rattle.reg_journal.specs.Facts.{hinted}
 use Rattle.reg_core.specs.inner.Lists.{region_by}
@@ -28,5 +29,5 @@ returns c = record {
       ∙ sym (region-after db J r radio hint c.args.after.now kept led_after) in
       let moved = c.is_moved.ensures ∙ ap (λ x. not (is_same_region x c.region_of-was.result)) is
       ∙ ap (λ x. not (is_same_region (region_of db (hinted (Treated hint) ∷ J) r) x)) was in
-      (there.0, c.retune.ensures.kept db J r (Treated hint) kept driver table moved);
+      (there.0, c.retune.ensures.kept db J r (Treated hint) kept driver table moved (c.checks_last.ensures ∙ ap (λ x. is_same_region x Etsi) is));
 }

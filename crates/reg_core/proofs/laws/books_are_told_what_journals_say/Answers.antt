@@ -1,5 +1,7 @@
 use Rattle.reg_core.proofs.Counting.{counts_from_book, counts_to_book}
 use Rattle.reg_core.proofs.DueCalls.{due_calls}
+use Rattle.reg_core.proofs.Lapsing.{lapsed_from_book, lapsed_to_book, used_from_book, used_to_book}
+use Rattle.reg_core.proofs.LastingChecks.{lasts_told}
 use Rattle.reg_core.proofs.Running.{calls-now}
 use Rattle.reg_core.proofs.States.{barred_alike, quiet_alike, stands_alike, state_alike}
 use Rattle.reg_core.proofs.laws.books_are_told_what_journals_say.Goals as goal
@@ -24,3 +26,12 @@ returns-clause-stands c = stands_alike
 
 pub returns-clause-state : goal.returns-clause-state
 returns-clause-state c = state_alike
+
+pub returns-clause-used : goal.returns-clause-used
+returns-clause-used c = λ db J radio khz due. (used_to_book db J radio khz due, used_from_book db J radio khz due)
+
+pub returns-clause-lapsed : goal.returns-clause-lapsed
+returns-clause-lapsed c = λ db J radio khz end due. (lapsed_to_book db J radio khz end due, lapsed_from_book db J radio khz end due)
+
+pub returns-clause-lasts : goal.returns-clause-lasts
+returns-clause-lasts c = lasts_told

@@ -1,4 +1,4 @@
-use Rattle.chan_flags.proofs.Covering.{each_covered, each_covered_of_eight, BarsFirst-here, EachBelow-more}
+use Rattle.chan_flags.proofs.Covering.{each_covered, each_covered_of_most, BarsFirst-here, EachBelow-more}
 use Rattle.reg_journal.specs.Permits.{IsBoundOn}
 use Rattle.reg_core.specs.inner.Demands.{FailsDemand, MeetsDemand}
 use Rattle.reg_core.proofs.radar.lowest_failing.Goals as goal
@@ -19,4 +19,4 @@ loop-i-preserved c = λ db J r rules.
 
 pub returns : goal.returns
 returns c = λ db J r rules.
-    each_covered_of_eight (λ s. IsBoundOn db J r s → MeetsDemand db J r c.args.demand s) c.args.chan.now _ c.loop-i-test.false (c.loop-i.invariant db J r rules)
+    each_covered_of_most (λ s. IsBoundOn db J r s → MeetsDemand db J r c.args.demand s) c.args.chan.now _ c.loop-i-test.false (c.loop-i.invariant db J r rules)

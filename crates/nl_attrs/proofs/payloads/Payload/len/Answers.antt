@@ -1,5 +1,4 @@
-use Rattle.std.proofs.Common.{ℕ, ◌<◌, [], ◌∷◌, sym, arith}
-use Rattle.std.specs.Int.{w32, cast_unsigned}
+use Rattle.std.proofs.Common.{◌<◌, [], ◌∷◌, sym, arith}
 use Rattle.std.proofs.lemmas.List.Elements.{All-nil}
 use Rattle.nl_attrs.proofs.Lengths.{length-le16, length-le32, length-le64}
 use Rattle.nl_attrs.proofs.ByteLaws.{AreBytes-append, AreBytes-cons, AreBytes-le16, AreBytes-le32, AreBytes-le64}

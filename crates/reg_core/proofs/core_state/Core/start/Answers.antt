@@ -1,3 +1,4 @@
+use Rattle.std.proofs.Common.{refl}
 use Rattle.reg_core.proofs.StartsDone.{falls_done, start_has_room, starts_done}
 use Rattle.reg_core.proofs.core_state.Core.start.Goals as goal
 
@@ -10,8 +11,8 @@ start-requires-clause-room g c =
 pub returns-in-Ok-start : goal.returns-in-Ok-start
 returns-in-Ok-start g c = record {
   start = λ db J s.
-      starts_done db J c.args.name.now c.args.kind c.args.chan.now c.in-Ok.found.0 c.in-Ok.found.1 c.args.self.now c.set_operation.new.interfaces _ _ s
-      (c.in-Ok.ensures.start db J s) c.set_operation.ensures.operation c.in-Ok-start.ensures.told;
+      starts_done db J c.args.name.now c.args.kind c.args.chan.now c.in-Ok.found.0 c.in-Ok.found.1 c.args.self.now c.set_operation.new.interfaces c.operate_at.new.radios _ _ s
+      (c.in-Ok.ensures.start db J s) (λ x is there due. c.operate_at.ensures.kept db J x _ s.radios is there (c.in-Ok.found.1, refl) due) c.set_operation.ensures.operation c.in-Ok-start.ensures.told;
 }
 
 pub returns-in-Err-start : goal.returns-in-Err-start

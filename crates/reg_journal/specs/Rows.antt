@@ -1,0 +1,14 @@
+-- Two worked rows, as journals.
+use Rattle.std.specs.Prelude.{ℕ, List, [], ◌∷◌}
+use Rattle.chan_def.specs.declared.definition.ChanDef.{ChanDef}
+use Rattle.chan_def.specs.declared.kind.Kind.TheVariants.{Ap}
+use Rattle.chan_flags.specs.Profiles.{Abilities}
+use Rattle.reg_journal.specs.Facts.{Journal, moment_is, radio_added, radar_met, made, check_begun}
+
+-- a radio, and on it an interface that checks the channel for 60,000 ms from the moment 0 on; now it is this moment
+abbrev pub checked_row : Abilities → List ℕ → ChanDef → ℕ → Journal
+checked_row profile name c moment = moment_is moment ∷ check_begun 1 c 60000 ∷ made 1 name 0 Ap ∷ radio_added 0 profile ∷ []
+
+-- a radio that met radar on the channel at 70,000 ms; now it is this moment
+abbrev pub radar_row : Abilities → ChanDef → ℕ → Journal
+radar_row profile c moment = moment_is moment ∷ radar_met 0 c ∷ moment_is 70000 ∷ radio_added 0 profile ∷ []
