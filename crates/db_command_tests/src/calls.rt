@@ -1,5 +1,7 @@
 //! Calls of the conversions over memory, and what they have to answer.
 
+ghost use Rattle.std.specs.Prelude.{◌<◌};
+
 use db_commands::{Conversion, InputFault, Status, convert};
 use reg_base::{Bytes, MemSink, MemSource};
 use std::alloc::Global;
@@ -23,7 +25,9 @@ pub fn converted(
     command: Conversion,
     input: &[u8],
     piece: usize,
-) -> Result<(Status, MemSink), Fail> {
+) -> Result<(Status, MemSink), Fail>
+    requires { 0 < piece }
+{
     let mut source = MemSource::new(bytes(alloc, input)?, piece);
     let mut out = MemSink::new(alloc, ROOM)?;
     let status = convert(command, alloc, &mut source, &mut out);
