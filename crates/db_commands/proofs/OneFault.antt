@@ -10,7 +10,7 @@ use Rattle.rule_text.proofs.OneAnswer.{TextOf-unique, TextOf-no_fault, IsTextFau
 use Rattle.db_writer.specs.LaidOut.{IsWithinReach, EndsIn}
 use Rattle.db_writer.proofs.Unique.{EndsIn-unique}
 use Rattle.db_commands.proofs.FirstTime.{IsFirstTime-unique, LackTimes-none}
-use Rattle.db_commands.specs.Conversions.{HasOutput, InputStandsFor, IsAccepted, IsFileFault, IsInputFault, IsMisread, IsMissing, LacksOutput}
+use Rattle.db_commands.specs.Conversions.{HasOutput, InputStandsFor, IsAccepted, IsRefusedFile, IsInputFault, IsMisread, IsFirstAbsent, LacksOutput}
 use Rattle.db_commands.specs.declared.conversion.Conversion.{Conversion}
 use Rattle.db_commands.specs.declared.conversion.Conversion.TheVariants.{Compile, Decompile, Check, Lint, Common}
 use Rattle.db_commands.specs.declared.status.InputFault.{InputFault}
@@ -26,7 +26,7 @@ StandsFor-unique (Common a b) bytes ds es one other = ReadsAs-unique bytes ds es
 
 -- ---- an input that stands for a database isn't misread
 
-file_is_good : (bytes : List ℕ) (ds : List Domain) (fault : InputFault) → ReadsAs bytes ds → IsFileFault bytes fault → ⊥
+file_is_good : (bytes : List ℕ) (ds : List Domain) (fault : InputFault) → ReadsAs bytes ds → IsRefusedFile bytes fault → ⊥
 file_is_good bytes ds fault reads (f, is, bad) = ReadsAs-no_fault bytes ds f reads bad
 
 not_misread : (c : Conversion) (input : List ℕ) (ds : List Domain) (fault : InputFault) → InputStandsFor c input ds → IsMisread c input fault → ⊥
@@ -45,7 +45,7 @@ not_too_large ds words (place, ends, small) ends' above =
     omega (arith, same, small, above)
 
 -- both codes are there, so none is missing
-not_missing : (ds : List Domain) (a b code : Alpha2) → HasCode ds a → HasCode ds b → IsMissing ds a b code → ⊥
+not_missing : (ds : List Domain) (a b code : Alpha2) → HasCode ds a → HasCode ds b → IsFirstAbsent ds a b code → ⊥
 not_missing ds a b code one other missing = elim missing [ inl first ↦ first.1 one | inr second ↦ second.2 other ]
 
 not_lacking : (c : Conversion) (ds : List Domain) (fault : InputFault) → HasOutput c ds → LacksOutput c ds fault → ⊥
@@ -63,7 +63,7 @@ IsAccepted-no_fault c input ds fault accepted (inr (es, stands, lacks)) =
 
 -- ---- an input has one fault
 
-one_file_fault : (bytes : List ℕ) (f g : InputFault) → IsFileFault bytes f → IsFileFault bytes g → f ≡ g
+one_file_fault : (bytes : List ℕ) (f g : InputFault) → IsRefusedFile bytes f → IsRefusedFile bytes g → f ≡ g
 one_file_fault bytes f g (one, is, bad) (other, is', bad') = is ∙ ap Database (IsDbFault-unique bytes one other bad bad') ∙ sym is'
 
 misread_once : (c : Conversion) (input : List ℕ) (f g : InputFault) → IsMisread c input f → IsMisread c input g → f ≡ g
@@ -74,7 +74,7 @@ misread_once Lint bytes f g one other = one_file_fault bytes f g one other
 misread_once (Common a b) bytes f g one other = one_file_fault bytes f g one other
 
 -- one of the two codes is the first that is missing
-one_missing : (ds : List Domain) (a b code other : Alpha2) → IsMissing ds a b code → IsMissing ds a b other → code ≡ other
+one_missing : (ds : List Domain) (a b code other : Alpha2) → IsFirstAbsent ds a b code → IsFirstAbsent ds a b other → code ≡ other
 one_missing ds a b code other (inl (is, none)) (inl (is', none')) = is ∙ sym is'
 one_missing ds a b code other (inl (is, none)) (inr (is', has, none')) = absurd (none has)
 one_missing ds a b code other (inr (is, has, none)) (inl (is', none')) = absurd (none' has)

@@ -33,17 +33,17 @@ command_words Lint = codes "lint" ∷ []
 command_words (Common one other) = codes "common" ∷ (one.a ∷ one.b ∷ []) ∷ (other.a ∷ other.b ∷ []) ∷ []
 
 -- what the command names are codes
-abbrev pub HasCodes : Conversion → Type 0
-HasCodes Compile = ⊤
-HasCodes Decompile = ⊤
-HasCodes Check = ⊤
-HasCodes Lint = ⊤
-HasCodes (Common one other) = IsCode one × IsCode other
+abbrev pub NamesCodes : Conversion → Type 0
+NamesCodes Compile = ⊤
+NamesCodes Decompile = ⊤
+NamesCodes Check = ⊤
+NamesCodes Lint = ⊤
+NamesCodes (Common one other) = IsCode one × IsCode other
 
 -- the words are the form of the command
 pub record NamesConversion (words : List (String Global)) (command : Conversion) : Type 0 where
   pub spelled : map string_bytes words ≡ command_words command
-  pub are_codes : HasCodes command
+  pub are_codes : NamesCodes command
 
 -- the words are the form of such a command
 abbrev pub IsConversion : List (String Global) → Type 0
@@ -95,20 +95,20 @@ IsOutputOf (Common one other) ds bytes = IsShared ds one other bytes
 -- ---- why there is no output
 
 -- the bytes are no database file, for that reason
-abbrev pub IsFileFault : List ℕ → InputFault → Type 0
-IsFileFault bytes fault = (f : DbFault) × (fault ≡ Database f) × IsDbFault bytes f
+abbrev pub IsRefusedFile : List ℕ → InputFault → Type 0
+IsRefusedFile bytes fault = (f : DbFault) × (fault ≡ Database f) × IsDbFault bytes f
 
 -- why the input stands for no database
 abbrev pub IsMisread : Conversion → List ℕ → InputFault → Type 0
 IsMisread Compile text fault = (f : TextFault) × (fault ≡ Text f) × IsTextFault text f
-IsMisread Decompile bytes fault = IsFileFault bytes fault
-IsMisread Check bytes fault = IsFileFault bytes fault
-IsMisread Lint bytes fault = IsFileFault bytes fault
-IsMisread (Common one other) bytes fault = IsFileFault bytes fault
+IsMisread Decompile bytes fault = IsRefusedFile bytes fault
+IsMisread Check bytes fault = IsRefusedFile bytes fault
+IsMisread Lint bytes fault = IsRefusedFile bytes fault
+IsMisread (Common one other) bytes fault = IsRefusedFile bytes fault
 
 -- the first of the two codes that no country of the database has
-abbrev pub IsMissing : List Domain → Alpha2 → Alpha2 → Alpha2 → Type 0
-IsMissing ds one other code =
+abbrev pub IsFirstAbsent : List Domain → Alpha2 → Alpha2 → Alpha2 → Type 0
+IsFirstAbsent ds one other code =
     ((code ≡ one) × (HasCode ds one → ⊥)) ⊎ ((code ≡ other) × HasCode ds one × (HasCode ds other → ⊥))
 
 -- why the database has no output
@@ -117,7 +117,7 @@ LacksOutput Compile ds fault = (words : ℕ) × (fault ≡ Layout words) × Ends
 LacksOutput Decompile ds fault = (country : Alpha2) × (rule : ℕ) × (fault ≡ CacTime country rule) × IsFirstTime ds country rule
 LacksOutput Check ds fault = ⊥
 LacksOutput Lint ds fault = ⊥
-LacksOutput (Common one other) ds fault = (code : Alpha2) × (fault ≡ NoCountry code) × IsMissing ds one other code
+LacksOutput (Common one other) ds fault = (code : Alpha2) × (fault ≡ NoCountry code) × IsFirstAbsent ds one other code
 
 -- the input stands for no database, or the database that it stands for has no output
 abbrev pub IsInputFault : Conversion → List ℕ → InputFault → Type 0
