@@ -1,5 +1,5 @@
 -- Whether the lists of domains that apply have too many rows, and that they have rows.
-use Rattle.std.proofs.Common.{◌≡◌, ℕ, zero, suc, ◌<◌, ◌⊎◌, Bool, true, false, List, [], ◌∷◌, ◌++◌, length, All, Contains, find, Option, Some, None, IsSome, option_and_then, if◌then◌else◌, arith, refl, sym, ap, subst, inl, inr, eq-eqb, ne_eqb, append-nil, append_assoc}
+use Rattle.std.proofs.Common.{◌≡◌, ℕ, zero, suc, ◌<◌, ◌≤◌, ◌⊎◌, Bool, true, false, List, [], ◌∷◌, ◌++◌, length, All, Contains, find, Option, Some, None, IsSome, option_and_then, if◌then◌else◌, arith, refl, sym, ap, subst, inl, inr, eq-eqb, ne_eqb, append-nil, append_assoc}
 use Rattle.std.specs.List.{cons_option, filter_map}
 use Rattle.std.specs.Option.{option_map}
 use Rattle.std.proofs.lemmas.Bool.{cases_Bool, cases_eq}
@@ -114,10 +114,12 @@ applies_sound db J r is customs = whole (shared_domains db J r ++ custom_domains
 -- whether the list has too many rows
 told_many : (ds : List Domain) → IsSound ds → Told ((rows : ℕ) × HasTooManyRows ds rows)
 told_many [] sound = inr (λ (rows, (after, many)). let some = many.some in let within = many.within in omega (arith, some, within))
-told_many (d ∷ ds) (inl each) = elim (table_or_too_many (d ∷ ds) (omega arith) (All-from_members HasRules (d ∷ ds) each)) [
-  | inl (table, is) ↦ inr (λ (rows, (after, many)). no_table_of_too_many (d ∷ ds) table after rows is many)
-  | inr (after, rows, many) ↦ inl (rows, (after, many))
-]
+told_many (d ∷ ds) (inl each) = elim (table_or_too_many (d ∷ ds) (omega arith)
+    (All-from_members (λ (e : Domain). All IsValidRule e.rules) (d ∷ ds) (λ e has. (each e has).each))
+    (All-from_members (λ (e : Domain). length e.rules ≤ 128) (d ∷ ds) (λ e has. (each e has).few))) [
+      | inl (table, is) ↦ inr (λ (rows, (after, many)). no_table_of_too_many (d ∷ ds) table after rows is many)
+      | inr (after, rows, many) ↦ inl (rows, (after, many))
+    ]
 told_many (d ∷ ds) (inr nothing) = inr (λ (rows, (after, many)).
     let own = some_own_rows [] in
     no_table_of_too_many (custom_domain [] ∷ []) (record { rows = own.0; domains = 1 }) after rows

@@ -1,27 +1,30 @@
 -- There is what a request shows: sections, channels, radios and interfaces.
-use Rattle.std.proofs.Common.{◌≡◌, ℕ, zero, suc, ◌+◌, ◌*◌, ◌<◌, ◌≤◌, ◌⊎◌, List, [], ◌∷◌, ◌++◌, length, map, filter, Option, Some, None, IsTrue, arith, refl, sym, ap, subst, ◌∙◌, inl, inr}
+use Rattle.std.proofs.Common.{◌≡◌, ℕ, zero, suc, ◌+◌, ◌*◌, ◌<◌, ◌≤◌, ◌⊎◌, List, [], ◌∷◌, ◌++◌, length, map, filter, get_or, Option, Some, None, IsTrue, arith, refl, sym, ap, subst, ◌∙◌, inl, inr}
 use Rattle.std.specs.List.{AllZip}
 use Rattle.std.specs.Option.{option_map}
 use Rattle.std.proofs.lemmas.Bool.{cases_Bool, true≢false}
-use Rattle.freq_range.specs.Channels.{IsChannel}
+use Rattle.freq_range.specs.Ascending.{AreAllAscending}
+use Rattle.freq_range.specs.Channels.{IsCentre, IsChannel}
 use Rattle.freq_range.specs.declared.channel.Band.{Band}
 use Rattle.freq_range.specs.declared.channel.Band.TheVariants.{Ghz2, Ghz5, Ghz6}
+use Rattle.freq_range.specs.inner.Places.{IsChannelBefore, place}
+use Rattle.freq_range.proofs.Deciding.{Told}
+use Rattle.freq_range.proofs.Listed.{listed-all, listed-none, listed-nothing, listed-push}
 use Rattle.freq_range.proofs.Members.{Contains-head, Contains-later}
+use Rattle.freq_range.proofs.Picked.{IsPicked, picked-all, picked-keep, picked-leave, picked-nothing}
 use Rattle.rule_tables.specs.Databases.{IsDb}
 use Rattle.rule_tables.specs.declared.code.Region.{Region}
 use Rattle.rule_tables.specs.declared.domain.Domain.{Domain}
 use Rattle.rule_intersect.specs.Subchannels.{AreGoverning, SomeLacksRule}
 use Rattle.rule_intersect.specs.Tuples.{Choice}
 use Rattle.rule_intersect.specs.declared.row.Row.{Row}
-use Rattle.chan_flags.specs.Lists.{AreChannels}
+use Rattle.chan_flags.specs.Lists.{AreChannels, IsRadioChannel}
 use Rattle.chan_flags.specs.Profiles.{has_band}
 use Rattle.chan_flags.specs.Records.{IsRecord, fit_of}
 use Rattle.chan_flags.specs.declared.profile.Bands.{Bands}
 use Rattle.chan_flags.specs.declared.record.Chan.{Chan}
 use Rattle.chan_flags.specs.declared.record.Fit.{Fit}
-use Rattle.chan_flags.specs.inner.Listing.{AreChannelsBefore, place}
 use Rattle.chan_flags.proofs.Existing.{governing_or_none}
-use Rattle.chan_flags.proofs.Listed.{AreChannels-all, AreChannelsBefore-none, AreChannelsBefore-nothing, AreChannelsBefore-push, AreChannelsBefore-skip}
 use Rattle.chan_flags.proofs.Told.{told_channel}
 use Rattle.dfs_states.specs.declared.dfs.Dfs.{Dfs}
 use Rattle.reg_journal.specs.Applicable.{applies, global_domains, global_region, or_nothing, region_of, shared_domains, custom_domains, driver_domains}
@@ -86,29 +89,90 @@ centre_or_none Ghz6 n = elim (told_channel Ghz6 n (5950000 + 5000 * n)) [
   | inr never ↦ inr (λ khz is. never (is.0, refl))
 ]
 
-abbrev SomeBefore : Bands → ℕ → Type 0
-SomeBefore bands end = (list : List ℕ) × AreChannelsBefore bands end list
+-- the list of all channels before a place
+abbrev SomeBefore : ℕ → Type 0
+SomeBefore end = (list : List ℕ) × AreAllAscending (IsChannelBefore end) list
 
-channels_up : (bands : Bands) (band : Band) (n : ℕ) → n ≤ 234 → IsTrue (has_band bands band) → SomeBefore bands (place band 0) → SomeBefore bands (place band n)
-channels_up bands band zero few has start = start
-channels_up bands band (suc n) few has start =
-    let below = channels_up bands band n (omega (arith, few)) has start in
+channels_up : (band : Band) (n : ℕ) → n ≤ 234 → SomeBefore (place band 0) → SomeBefore (place band n)
+channels_up band zero few start = start
+channels_up band (suc n) few start =
+    let below = channels_up band n (omega (arith, few)) start in
     let next : n + 1 ≡ suc n = omega arith in
     elim (centre_or_none band n) [
-      | inl (khz, is) ↦ (below.0 ++ khz ∷ [], subst (λ m. AreChannelsBefore bands (place band m) (below.0 ++ khz ∷ [])) next (AreChannelsBefore-push bands band n khz below.0 has is below.1))
-      | inr none ↦ (below.0, subst (λ m. AreChannelsBefore bands (place band m) below.0) next (AreChannelsBefore-none bands band n below.0 (omega (arith, few)) none below.1))
+      | inl (khz, is) ↦ (below.0 ++ khz ∷ [], subst (λ m. AreAllAscending (IsChannelBefore (place band m)) (below.0 ++ khz ∷ [])) next (listed-push band n khz below.0 is below.1))
+      | inr none ↦ (below.0, subst (λ m. AreAllAscending (IsChannelBefore (place band m)) below.0) next (listed-none band n below.0 (omega (arith, few)) none below.1))
     ]
 
-whole_band : (bands : Bands) (band : Band) → SomeBefore bands (place band 0) → SomeBefore bands (place band 234)
-whole_band bands band start = elim (cases_Bool (has_band bands band)) [
-  | inl has ↦ channels_up bands band 234 (omega arith) has start
-  | inr lacks ↦ (start.0, AreChannelsBefore-skip bands band start.0 (λ has. true≢false (sym has ∙ lacks)) start.1)
+all_centres : (list : List ℕ) × AreAllAscending IsCentre list
+all_centres =
+    let all = channels_up Ghz6 234 (omega arith) (channels_up Ghz5 234 (omega arith) (channels_up Ghz2 234 (omega arith) ([], listed-nothing))) in
+    (all.0, listed-all all.0 all.1)
+
+-- where the band's first and last channel lie
+abbrev first_khz : Band → ℕ
+first_khz Ghz2 = 2412000
+first_khz Ghz5 = 5180000
+first_khz Ghz6 = 5955000
+
+abbrev last_khz : Band → ℕ
+last_khz Ghz2 = 2484000
+last_khz Ghz5 = 5885000
+last_khz Ghz6 = 7115000
+
+within : (band : Band) (n khz : ℕ) → IsChannel band n khz → (first_khz band ≤ khz) × (khz ≤ last_khz band)
+within Ghz2 n khz (inl is) = let from = is.0 in let to = is.1 in let at = is.2 in (omega (arith, from, at), omega (arith, to, at))
+within Ghz2 n khz (inr is) = let at = is.1 in (omega (arith, at), omega (arith, at))
+within Ghz5 n khz (inl step, at) = let from = step.from_first in let to = step.to_last in (omega (arith, from, at), omega (arith, to, at))
+within Ghz5 n khz (inr (inl step), at) = let from = step.from_first in let to = step.to_last in (omega (arith, from, at), omega (arith, to, at))
+within Ghz5 n khz (inr (inr step), at) = let from = step.from_first in let to = step.to_last in (omega (arith, from, at), omega (arith, to, at))
+within Ghz6 n khz (step, at) = let from = step.from_first in let to = step.to_last in (omega (arith, from, at), omega (arith, to, at))
+
+-- a centre is of one band
+one_band : (b band : Band) (m n khz : ℕ) → IsChannel b m khz → IsChannel band n khz → b ≡ band
+one_band Ghz2 Ghz2 m n khz one other = refl
+one_band Ghz2 Ghz5 m n khz one other = let to = (within Ghz2 m khz one).1 in let from = (within Ghz5 n khz other).0 in absurd (omega (arith, to, from))
+one_band Ghz2 Ghz6 m n khz one other = let to = (within Ghz2 m khz one).1 in let from = (within Ghz6 n khz other).0 in absurd (omega (arith, to, from))
+one_band Ghz5 Ghz2 m n khz one other = let to = (within Ghz2 n khz other).1 in let from = (within Ghz5 m khz one).0 in absurd (omega (arith, to, from))
+one_band Ghz5 Ghz5 m n khz one other = refl
+one_band Ghz5 Ghz6 m n khz one other = let to = (within Ghz5 m khz one).1 in let from = (within Ghz6 n khz other).0 in absurd (omega (arith, to, from))
+one_band Ghz6 Ghz2 m n khz one other = let to = (within Ghz2 n khz other).1 in let from = (within Ghz6 m khz one).0 in absurd (omega (arith, to, from))
+one_band Ghz6 Ghz5 m n khz one other = let to = (within Ghz5 n khz other).1 in let from = (within Ghz6 m khz one).0 in absurd (omega (arith, to, from))
+one_band Ghz6 Ghz6 m n khz one other = refl
+
+-- whether a channel is one of the radio's
+told_radio : (bands : Bands) (khz : ℕ) → IsCentre khz → Told (IsRadioChannel bands khz)
+told_radio bands khz (band, n, is) = elim (cases_Bool (has_band bands band)) [
+  | inl has ↦ inl (band, n, is, has)
+  | inr lacks ↦ inr (λ (other, m, is_other, has). true≢false (sym (subst (λ b. IsTrue (has_band bands b)) (one_band other band m n khz is_other is) has) ∙ lacks))
 ]
 
+-- those of the first i that are the radio's
+pick : (bands : Bands) (all : List ℕ) → AreAllAscending IsCentre all → (i : ℕ) → i ≤ length all
+    → (list : List ℕ) × AreAllAscending (IsPicked (IsRadioChannel bands) all i) list
+pick bands all are zero in_range = ([], picked-nothing (IsRadioChannel bands) all)
+pick bands all are (suc i) in_range =
+    let before = pick bands all are i (omega (arith, in_range)) in
+    let next : i + 1 ≡ suc i = omega arith in
+    elim (told_radio bands (get_or all i 0) (are.only i 0 (omega (arith, in_range)))) [
+      | inl is ↦ (
+        before.0 ++ get_or all i 0 ∷ [],
+        subst (λ m. AreAllAscending (IsPicked (IsRadioChannel bands) all m) (before.0 ++ get_or all i 0 ∷ [])) next
+            (picked-keep IsCentre (IsRadioChannel bands) all i (get_or all i 0) before.0 are (omega (arith, in_range)) refl is before.1),
+      )
+      | inr lacks ↦ (
+        before.0,
+        subst (λ m. AreAllAscending (IsPicked (IsRadioChannel bands) all m) before.0) next
+            (picked-leave (IsRadioChannel bands) all i (get_or all i 0) before.0 (omega (arith, in_range)) refl lacks before.1),
+      )
+    ]
+
+picked_from : (bands : Bands) (all : List ℕ) → AreAllAscending IsCentre all → (list : List ℕ) × AreChannels bands list
+picked_from bands all are =
+    let picked = pick bands all are (length all) (omega arith) in
+    (picked.0, picked-all IsCentre (IsRadioChannel bands) all (length all) picked.0 are (omega arith) (λ khz (band, n, is, has). (band, n, is)) picked.1)
+
 some_channels : (bands : Bands) → (list : List ℕ) × AreChannels bands list
-some_channels bands =
-    let all = whole_band bands Ghz6 (whole_band bands Ghz5 (whole_band bands Ghz2 ([], AreChannelsBefore-nothing bands))) in
-    (all.0, AreChannels-all bands all.0 all.1)
+some_channels bands = let all = all_centres in picked_from bands all.0 all.1
 
 governing_list : (ds : List Domain) (s : ℕ) → ((t : List Choice) × AreGoverning ds s t) ⊎ SomeLacksRule ds s
 governing_list [] s = inl ([], tt)
