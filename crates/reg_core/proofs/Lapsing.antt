@@ -8,7 +8,7 @@ use Rattle.rule_tables.specs.declared.domain.Domain.{Domain}
 use Rattle.chan_def.specs.Covered.{IsCovered}
 use Rattle.chan_def.specs.Kinds.{initiates}
 use Rattle.chan_def.specs.declared.definition.ChanDef.{ChanDef}
-use Rattle.dfs_states.specs.Calls.{operation_of as operation_in, moment_of as now_of_calls}
+use Rattle.dfs_states.specs.Calls.{slot_operation as operation_in, moment_of as now_of_calls}
 use Rattle.dfs_states.specs.Greatest.{IsGreatest}
 use Rattle.dfs_states.specs.Meaning.{HasOperation, OperatedAt, IsEndOrUse, CheckLapsed}
 use Rattle.dfs_states.proofs.Most.{most_same}

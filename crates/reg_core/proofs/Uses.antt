@@ -8,7 +8,7 @@ use Rattle.chan_def.specs.Kinds.{initiates}
 use Rattle.chan_def.specs.declared.definition.ChanDef.{ChanDef}
 use Rattle.chan_def.specs.declared.kind.Kind.{Kind}
 use Rattle.chan_flags.specs.declared.verdict.PowerSetting.{PowerSetting}
-use Rattle.dfs_states.specs.Calls.{Call, Radar, Begin, DropCheck, Operate, operation_of as operation_in}
+use Rattle.dfs_states.specs.Calls.{Call, Radar, Begin, DropCheck, Operate, slot_operation as operation_in}
 use Rattle.reg_journal.specs.Due.{EachMayFollow}
 use Rattle.reg_journal.specs.Facts.{Fact, Journal, moment_is, radio_added, radio_removed, hinted, radar_met, made, ended, typed, set_to, started, stopped, powered, check_begun, check_dropped}
 use Rattle.reg_journal.specs.OnAir.{is_on}
