@@ -109,7 +109,13 @@ fn what_two_countries_share_is_told(rt: HostRuntime) -> Result<(), Fail> {
     tells(&rt, rt.alloc(), of_both(b"US", b"GB"), BANDS, US_AND_GB)?;
     tells(&rt, rt.alloc(), of_both(b"GB", b"US"), BANDS, US_AND_GB)?;
     let apart = b"country AA:\n(2400 - 2483.5 @ 40), (20)\ncountry BB:\n(5170 - 5250 @ 80), (20)\n";
-    tells(&rt, rt.alloc(), of_both(b"AA", b"BB"), apart, b"0 channels\n")
+    tells(
+        &rt,
+        rt.alloc(),
+        of_both(b"AA", b"BB"),
+        apart,
+        b"0 channels\n",
+    )
 }
 
 #[test]
