@@ -9,7 +9,6 @@ use Rattle.freq_range.proofs.Members.{Contains-cases}
 use Rattle.rule_tables.specs.Code.{IsCapital}
 use Rattle.rule_tables.specs.Databases.{IsDb}
 use Rattle.rule_tables.specs.Domains.{AreRules, IsInvalidAt}
-use Rattle.rule_tables.specs.declared.code.Alpha2.{Alpha2}
 use Rattle.rule_tables.specs.declared.domain.Domain.{Domain}
 use Rattle.rule_tables.proofs.Governed.{first_or_none}
 use Rattle.chan_def.specs.Covered.{IsValidDef}
@@ -18,7 +17,6 @@ use Rattle.chan_def.specs.declared.definition.ChanDef.{ChanDef}
 use Rattle.chan_def.specs.declared.kind.Kind.{Kind}
 use Rattle.chan_def.specs.declared.kind.Kind.TheVariants.{Monitor}
 use Rattle.chan_def.specs.declared.kind.TheConstants.{MOST_IFACES}
-use Rattle.chan_flags.specs.Verdicts.{IsAbove}
 use Rattle.chan_flags.specs.declared.verdict.PowerSetting.{PowerSetting}
 use Rattle.chan_flags.proofs.Existing.{told_not, told_true}
 use Rattle.chan_flags.proofs.Told.{told_either}
@@ -30,17 +28,17 @@ use Rattle.reg_hints.specs.declared.element.ElementFault.TheVariants.{Short, Odd
 use Rattle.reg_hints.specs.declared.hint.Treatment.{Treatment}
 use Rattle.reg_hints.specs.declared.hint.Treatment.TheVariants.{Replace, Intersect, Already, Ignore}
 use Rattle.dfs_states.specs.declared.moments.TheConstants.{LAST_MOMENT_MS}
-use Rattle.reg_journal.specs.Applicable.{applies, find_domain, global_domains, hints_of}
+use Rattle.reg_journal.specs.Applicable.{AddsFifthCode, applies, code_of_hint, find_domain, global_domains, hints_of}
 use Rattle.reg_journal.specs.Causes.{IsFree, ◌before◌, Where}
 use Rattle.reg_journal.specs.Due.{EachMayFollow}
 use Rattle.reg_journal.specs.Effects.{effects_of}
 use Rattle.reg_journal.specs.Facts.{Fact, Journal, hinted, powered, rules_are, set_to}
-use Rattle.reg_journal.specs.Permits.{BarsCheck, BarsOperation, HasNothingToCheck, IsLimitOf, IsPowerOf}
+use Rattle.reg_journal.specs.Permits.{BarsCheck, BarsOperation, HasNothingToCheck, IsPowerOf, PassesLimit}
 use Rattle.reg_journal.specs.Present.{Iface, Operation, check_of, ifaces_on, is_used, made_of, most_made, named, now_of, operation_of, profile_of, radios_of, with_setting}
-use Rattle.reg_journal.specs.Refusals.{AddsFifthCode, ElementCauses, FailsDriver, HintCauses, IfaceAddCauses, InUseFor, InvalidChannel, IsInUse, LacksIface, LacksRadio, MomentCauses, OnIface, RadarCauses, RadioAddCauses, RulesCauses, SetPowerCauses, SetTypeCauses, StartCauses, StopCauses, CheckCauses, all_lists}
+use Rattle.reg_journal.specs.Refusals.{ElementCauses, FailsDriver, HintCauses, IfaceAddCauses, InUseFor, InvalidChannel, IsInUse, LacksIface, LacksRadio, MomentCauses, OnIface, RadarCauses, RadioAddCauses, RulesCauses, SetPowerCauses, SetTypeCauses, StartCauses, StopCauses, CheckCauses, all_lists}
 use Rattle.reg_journal.specs.Replies.{Decides, Gives, GivesEffects, OnNamed, SetsPower, Sweeps}
 use Rattle.reg_journal.specs.declared.refusal.Refusal.{Refusal}
-use Rattle.reg_journal.specs.declared.refusal.Refusal.TheVariants.{BadRule, Busy, ElementNotLetters, ElementOdd, ElementShort, MomentTooLarge, NameTaken, NoCountry, NoRules, NotRunning, NothingToCheck, Power, TooManyDomains, TooManyRules, WrongType}
+use Rattle.reg_journal.specs.declared.refusal.Refusal.TheVariants.{BadRule, Busy, ElementNotLetters, ElementOdd, ElementShort, MomentTooLarge, NameTaken, NoCountry, NoRules, NotRunning, NothingToCheck, TooManyDomains, TooManyRules, WrongType}
 use Rattle.reg_journal.specs.declared.reply.Answer.{Answer}
 use Rattle.reg_journal.specs.declared.reply.Answer.TheVariants.{Ok, Refused}
 use Rattle.reg_journal.specs.declared.reply.Reply.{Reply}
@@ -157,9 +155,9 @@ told_fifth : (J : Journal) (hint : Hinted) → Told (AddsFifthCode J hint)
 told_fifth J (Treated h) = told_both (told_intersect (treatment (hints_of J) h)) (cases_eq (length (hints_of J).global) MOST_CODES)
 told_fifth J (Own r a) = inr (λ is. is)
 
-pub cause-hint : (db : List Domain) (J : Journal) (a : Alpha2) (hint : Hinted) → IsDb db → EachMayFollow db J → TellsCause (HintCauses db J a hint)
-cause-hint db J a hint is_db due =
-    cause-before (Where (find_domain db a ≡ None) (NoCountry a)) _ (cause-where _ _ (told_none (find_domain db a))) (λ known.
+pub cause-hint : (db : List Domain) (J : Journal) (hint : Hinted) → IsDb db → EachMayFollow db J → TellsCause (HintCauses db J hint)
+cause-hint db J hint is_db due =
+    cause-before (Where (find_domain db (code_of_hint hint) ≡ None) (NoCountry (code_of_hint hint))) _ (cause-where _ _ (told_none (find_domain db (code_of_hint hint)))) (λ known.
     cause-before (Where (AddsFifthCode J hint) TooManyDomains) _ (cause-where _ _ (told_fifth J hint)) (λ few.
     some_rows_or_none (all_lists db (hinted hint ∷ J)) (λ ds has. elim (Contains-cases (global_domains db (hinted hint ∷ J)) (map (applies db (hinted hint ∷ J)) (radios_of (hinted hint ∷ J))) ds has) [
       | inl same ↦ subst IsSound same (inl (λ d there. global_rules db (hinted hint ∷ J) d is_db there))
@@ -240,7 +238,7 @@ cause-set_type J name = cause-on_iface J name (λ x. Where (IsInUse J x) Busy) (
 pub cause-set_power : (db : List Domain) (J : Journal) (name : List ℕ) (setting : PowerSetting) → TellsCause (SetPowerCauses db J name setting)
 cause-set_power db J name setting = cause-on_iface J name _ (λ x. by x (operation_of J x.index))
   where
-    by : (x : Iface) (o : Option Operation) → TellsCause (λ e. IsSomeAnd o (λ o. (limit : ℕ) × IsLimitOf db J x o.chan limit × IsAbove setting limit × (e ≡ Power limit)))
+    by : (x : Iface) (o : Option Operation) → TellsCause (λ e. IsSomeAnd o (λ o. PassesLimit db J x setting o.chan e))
     by x None = inr (λ e is. is)
     by x (Some o) = cause-power db J x o.chan setting
 

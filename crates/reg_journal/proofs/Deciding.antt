@@ -1,5 +1,5 @@
 -- Some cause comes, or none does; and so a sweep has its facts.
-use Rattle.std.proofs.Common.{◌≡◌, ◌≢◌, ℕ, ◌⊎◌, List, [], ◌∷◌, ◌++◌, length, Option, Some, None, MatchOption, refl, sym, subst, inl, inr}
+use Rattle.std.proofs.Common.{◌≡◌, ℕ, ◌⊎◌, List, [], ◌∷◌, ◌++◌, length, Option, Some, None, MatchOption, refl, sym, subst, inl, inr}
 use Rattle.std.specs.Option.{option_to_list}
 use Rattle.std.proofs.lemmas.Bool.{cases_eq}
 use Rattle.freq_range.proofs.Deciding.{Told, told_as, told_both, told_lt}
@@ -13,19 +13,19 @@ use Rattle.chan_flags.specs.declared.asked.Obstacle.TheVariants.{Missing, Unrule
 use Rattle.chan_flags.specs.declared.verdict.PowerSetting.{PowerSetting}
 use Rattle.chan_flags.proofs.Existing.{first_or_none, some_length, some_limit, told_bars, told_not, told_true, within_or_above}
 use Rattle.chan_flags.proofs.OneAnswer.{IsLimit-unique}
-use Rattle.reg_journal.specs.Applicable.{applies, region_of}
+use Rattle.reg_journal.specs.Applicable.{applies}
 use Rattle.reg_journal.specs.Causes.{IsFree, SomeComes, ◌before◌, Where, AtLowest}
 use Rattle.reg_journal.specs.Facts.{Fact, Journal, stopped, powered, check_begun, check_dropped}
-use Rattle.reg_journal.specs.Permits.{asked_by, channels_beside, distinct, width_mhz, IsBoundOn, IsLengthOf, IsLimitOf, IsPowerOf, LacksChannel, LacksWidth, LacksContext, RulesForbid, PassesLimit, LacksRadarWidth, MetRadar, LacksCheck, HasNothingToCheck, EndsOperation, EndsCheck, BarsOperation, BarsCheck}
+use Rattle.reg_journal.specs.Permits.{asked_by, channels_beside, distinct, width_mhz, IsBoundOn, IsLengthOf, IsLimitOf, IsPowerOf, LacksChannel, LacksWidth, LacksContext, RadarForbids, RadioForbids, RulesForbid, PassesLimit, LacksRadarWidth, MetRadar, LacksCheck, HasNothingToCheck, EndsOperation, EndsCheck, BarsOperation, BarsCheck}
 use Rattle.reg_journal.specs.Present.{Check, Iface, Operation, abilities_of, check_of, operation_of}
-use Rattle.reg_journal.specs.Radar.{HasCheck, IsQuiet, NoneStands}
+use Rattle.reg_journal.specs.Radar.{HasCheck, IsQuiet, KeepsRegion, NoneStands}
 use Rattle.reg_journal.specs.Sweep.{AreSwept, Becomes, CheckBecomes, MustDrop, OperationBecomes, RegionChangedInCheck}
 use Rattle.reg_journal.specs.declared.refusal.Refusal.{Refusal}
 use Rattle.reg_journal.specs.declared.refusal.Refusal.TheVariants.{RadioLacks, NoRule, Width as TooNarrow, NoOfdm, NoIr, NoOutdoor, Power, Radar, Unchecked}
 use Rattle.reg_journal.proofs.Granting.{not_above}
 use Rattle.reg_journal.proofs.Permitting.{told_bound, told_none_stands, told_three}
 use Rattle.reg_journal.proofs.Splitting.{SomeSplit, told_split}
-use Rattle.reg_journal.proofs.ToldStates.{some_stands, tells_region, told_check, told_quiet}
+use Rattle.reg_journal.proofs.ToldStates.{some_stands, told_check, told_quiet, told_region_kept}
 
 -- some refusal comes by the cause, or none does
 abbrev pub TellsCause : (Refusal → Type 0) → Type 0
@@ -78,7 +78,7 @@ limit_of db J x c = some_limit (applies db J x.radio) (asked_by J x c)
 
 -- a fixed power that may be above the limit
 pub cause-power : (db : List Domain) (J : Journal) (x : Iface) (c : ChanDef) (setting : PowerSetting)
-    → TellsCause (λ e. (limit : ℕ) × IsLimitOf db J x c limit × IsAbove setting limit × (e ≡ Power limit))
+    → TellsCause (PassesLimit db J x setting c)
 cause-power db J x c setting =
     let limit = limit_of db J x c in
     elim (within_or_above setting limit.0) [
@@ -111,83 +111,68 @@ told_nothing db J x c = elim (first_or_none (λ s. IsBoundOn db J x.radio s × N
 
 -- ---- all of it
 
+cause-radio : (db : List Domain) (J : Journal) (x : Iface) (c : ChanDef) → TellsCause (RadioForbids db J x c)
+cause-radio db J x c = cause-before (LacksChannel db J x c) _ (cause-channel db J x c) (λ free. cause-width J x c)
+
+cause-by_radar : (db : List Domain) (J : Journal) (x : Iface) (c : ChanDef) → TellsCause (RadarForbids db J x c)
+cause-by_radar db J x c = cause-before (LacksRadarWidth db J x c) _ (cause-radar_width db J x c) (λ free. cause-radar db J x c)
+
 cause-behind : (db : List Domain) (J : Journal) (x : Iface) (c : ChanDef)
-    → TellsCause (RulesForbid db J x c before PassesLimit db J x c before LacksRadarWidth db J x c before MetRadar db J x c before LacksCheck db J x c)
+    → TellsCause (RulesForbid db J x c before PassesLimit db J x x.setting c before RadarForbids db J x c before LacksCheck db J x c)
 cause-behind db J x c =
     cause-before (RulesForbid db J x c) _ (cause-rules db J x c) (λ free.
-    cause-before (PassesLimit db J x c) _ (cause-power db J x c x.setting) (λ free.
-    cause-before (LacksRadarWidth db J x c) _ (cause-radar_width db J x c) (λ free.
-    cause-before (MetRadar db J x c) _ (cause-radar db J x c) (λ free. cause-check db J x c))))
+    cause-before (PassesLimit db J x x.setting c) _ (cause-power db J x c x.setting) (λ free.
+    cause-before (RadarForbids db J x c) _ (cause-by_radar db J x c) (λ free. cause-check db J x c)))
 
-cause-of_check : (db : List Domain) (J : Journal) (x : Iface) (c : ChanDef) → TellsCause (RulesForbid db J x c before LacksRadarWidth db J x c before MetRadar db J x c)
-cause-of_check db J x c =
-    cause-before (RulesForbid db J x c) _ (cause-rules db J x c) (λ free.
-    cause-before (LacksRadarWidth db J x c) _ (cause-radar_width db J x c) (λ free. cause-radar db J x c))
+cause-of_check : (db : List Domain) (J : Journal) (x : Iface) (c : ChanDef) → TellsCause (RulesForbid db J x c before RadarForbids db J x c)
+cause-of_check db J x c = cause-before (RulesForbid db J x c) _ (cause-rules db J x c) (λ free. cause-by_radar db J x c)
 
 cause-ends_operation : (db : List Domain) (J : Journal) (x : Iface) (c : ChanDef) → TellsCause (EndsOperation db J x c)
-cause-ends_operation db J x c =
-    cause-before (LacksChannel db J x c) _ (cause-channel db J x c) (λ free. cause-before (LacksWidth J x c) _ (cause-width J x c) (λ free. cause-behind db J x c))
+cause-ends_operation db J x c = cause-before (RadioForbids db J x c) _ (cause-radio db J x c) (λ free. cause-behind db J x c)
 
 cause-ends_check : (db : List Domain) (J : Journal) (x : Iface) (c : ChanDef) → TellsCause (EndsCheck db J x c)
-cause-ends_check db J x c =
-    cause-before (LacksChannel db J x c) _ (cause-channel db J x c) (λ free. cause-before (LacksWidth J x c) _ (cause-width J x c) (λ free. cause-of_check db J x c))
+cause-ends_check db J x c = cause-before (RadioForbids db J x c) _ (cause-radio db J x c) (λ free. cause-of_check db J x c)
 
 pub cause-bars_operation : (db : List Domain) (J : Journal) (x : Iface) (c : ChanDef) → TellsCause (BarsOperation db J x c)
 cause-bars_operation db J x c =
-    cause-before (LacksChannel db J x c) _ (cause-channel db J x c) (λ free.
-    cause-before (LacksWidth J x c) _ (cause-width J x c) (λ free. cause-before (LacksContext J x c) _ (cause-context J x c) (λ free. cause-behind db J x c)))
+    cause-before (RadioForbids db J x c) _ (cause-radio db J x c) (λ free. cause-before (LacksContext J x c) _ (cause-context J x c) (λ free. cause-behind db J x c))
 
 pub cause-bars_check : (db : List Domain) (J : Journal) (x : Iface) (c : ChanDef) → TellsCause (BarsCheck db J x c)
 cause-bars_check db J x c =
-    cause-before (LacksChannel db J x c) _ (cause-channel db J x c) (λ free.
-    cause-before (LacksWidth J x c) _ (cause-width J x c) (λ free. cause-before (LacksContext J x c) _ (cause-context J x c) (λ free. cause-of_check db J x c)))
+    cause-before (RadioForbids db J x c) _ (cause-radio db J x c) (λ free. cause-before (LacksContext J x c) _ (cause-context J x c) (λ free. cause-of_check db J x c))
 
 -- ---- regions
-
--- the list begins with a fact that changes the radio's region
-abbrev BeginsWithChange : List Domain → Journal → ℕ → Journal → Type 0
-BeginsWithChange db base r [] = ⊥
-BeginsWithChange db base r (f ∷ between) = region_of db (f ∷ between ++ base) r ≢ region_of db (between ++ base) r
-
-told_change : (db : List Domain) (base : Journal) (r : ℕ) (facts : Journal) → Told (BeginsWithChange db base r facts)
-told_change db base r [] = inr (λ is. is)
-told_change db base r (f ∷ between) = told_not _ (tells_region (region_of db (f ∷ between ++ base) r) (region_of db (between ++ base) r))
 
 -- the older facts begin with a check on the interface, since which the region changed
 abbrev BeginsWithMovedCheck : List Domain → Iface → Journal → Journal → Type 0
 BeginsWithMovedCheck db x newer [] = ⊥
 BeginsWithMovedCheck db x newer (check_begun i c n ∷ older) =
-    ((i ≡ x.index) × (HasCheck newer x.index → ⊥)) × SomeSplit (λ later rest. BeginsWithChange db (check_begun x.index c n ∷ older) x.radio rest) newer
+    ((i ≡ x.index) × (HasCheck newer x.index → ⊥)) × (KeepsRegion db newer (check_begun x.index c n ∷ older) x.radio → ⊥)
 BeginsWithMovedCheck db x newer (f ∷ older) = ⊥
 
 told_moved_check : (db : List Domain) (x : Iface) (newer older : Journal) → Told (BeginsWithMovedCheck db x newer older)
 told_moved_check db x newer [] = inr (λ is. is)
 told_moved_check db x newer (check_begun i c n ∷ older) =
     told_both (told_both (cases_eq i x.index) (told_not (HasCheck newer x.index) (told_check newer x.index)))
-    (told_split (λ later rest. BeginsWithChange db (check_begun x.index c n ∷ older) x.radio rest) (λ later rest. told_change db (check_begun x.index c n ∷ older) x.radio rest) newer)
+    (told_not (KeepsRegion db newer (check_begun x.index c n ∷ older) x.radio) (told_region_kept db newer (check_begun x.index c n ∷ older) x.radio))
 told_moved_check db x newer (f ∷ older) = inr (λ is. is)
 
 moved_from : (db : List Domain) (J : Journal) (x : Iface) → SomeSplit (BeginsWithMovedCheck db x) J → RegionChangedInCheck db J x
 moved_from db J x (newer, [], at, is) = absurd is
-moved_from db J x (newer, check_begun i c n ∷ older, at, ((same, last), (later, [], split, is))) = absurd is
-moved_from db J x (newer, check_begun i c n ∷ older, at, ((same, last), (later, f ∷ between, split, differs))) = record {
+moved_from db J x (newer, check_begun i c n ∷ older, at, ((same, last), changed)) = record {
   newer = newer;
   chan = c;
   length = n;
   older = older;
   begun = subst (λ k. J ≡ newer ++ check_begun k c n ∷ older) same at;
   last = last;
-  later = later;
-  fact = f;
-  between = between;
-  at = split;
-  differs = differs;
+  changed = changed;
 }
 moved_from db J x (newer, f ∷ older, at, is) = absurd is
 
 told_region_changed : (db : List Domain) (J : Journal) (x : Iface) → Told (RegionChangedInCheck db J x)
 told_region_changed db J x = told_as (moved_from db J x)
-    (λ is. (is.newer, check_begun x.index is.chan is.length ∷ is.older, is.begun, ((refl, is.last), (is.later, is.fact ∷ is.between, is.at, is.differs))))
+    (λ is. (is.newer, check_begun x.index is.chan is.length ∷ is.older, is.begun, ((refl, is.last), is.changed)))
     (told_split (BeginsWithMovedCheck db x) (told_moved_check db x) J)
 
 -- ---- sweeps

@@ -96,6 +96,7 @@ plain_after (f ∷ facts) J (first, each) plain = plain_after facts (f ∷ J) ea
 
 swept_plain : (f : Fact) (i : ℕ) → IsSweptOn f i → IsPlain f
 swept_plain (rules_are r rules) i on = absurd on
+swept_plain (made j name r kind) i on = absurd on
 swept_plain (stopped j) i on = tt
 swept_plain (powered j power) i on = tt
 swept_plain (check_dropped j) i on = tt

@@ -1,6 +1,7 @@
 pub mod OneCause
 pub mod OneRefusal
 pub mod OneReply
+pub mod Fitting
 pub mod Granting
 pub mod Settling
 pub mod Verdicts
@@ -39,4 +40,13 @@ pub mod Showing
 pub mod SomeReply
 pub mod Asked
 pub mod Coded
+pub mod Distinct
 pub mod WorkedRows
+pub mod Naming
+pub mod Formed
+pub mod Wholes
+pub mod ShownRefusals
+pub mod ShownReplies
+pub mod ShownSteps
+pub mod FewRows
+pub mod RowsKept

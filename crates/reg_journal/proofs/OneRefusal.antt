@@ -4,12 +4,10 @@ use Rattle.freq_range.specs.First.{IsFirst}
 use Rattle.freq_range.proofs.Firsts.{IsFirst-unique}
 use Rattle.freq_range.specs.declared.rule.Rule.{Rule}
 use Rattle.rule_tables.specs.Domains.{IsInvalidAt}
-use Rattle.rule_tables.specs.declared.code.Alpha2.{Alpha2}
 use Rattle.rule_tables.specs.declared.domain.Domain.{Domain}
 use Rattle.rule_intersect.proofs.OneTable.{IsTooMany-unique}
 use Rattle.chan_def.specs.declared.definition.ChanDef.{ChanDef}
 use Rattle.chan_def.specs.declared.kind.Kind.{Kind}
-use Rattle.chan_flags.specs.Verdicts.{IsAbove}
 use Rattle.chan_flags.proofs.OneAnswer.{IsLimit-unique}
 use Rattle.chan_flags.specs.declared.verdict.PowerSetting.{PowerSetting}
 use Rattle.reg_hints.specs.Element.{IsElementFault}
@@ -19,7 +17,7 @@ use Rattle.reg_journal.specs.Facts.{Journal, hinted, rules_are}
 use Rattle.reg_journal.specs.Present.{Iface, Operation, named, operation_of}
 use Rattle.reg_journal.specs.Applicable.{applies}
 use Rattle.reg_journal.specs.Causes.{◌before◌}
-use Rattle.reg_journal.specs.Permits.{asked_by, IsLimitOf, PassesLimit, RulesForbid, EndsOperation, BarsOperation, BarsCheck}
+use Rattle.reg_journal.specs.Permits.{asked_by, LacksCheck, PassesLimit, RadarForbids, RadioForbids, RulesForbid, EndsOperation, BarsOperation, BarsCheck}
 use Rattle.reg_journal.specs.Refusals.{MomentCauses, LacksRadio, RadioAddCauses, HasTooManyRows, IsTooLongAt, RowCauses, RulesCauses, all_lists, ElementCauses, HintCauses, IfaceAddCauses, LacksIface, OnIface, SetTypeCauses, SetPowerCauses, StopCauses, StartCauses, CheckCauses, RadarCauses}
 use Rattle.reg_journal.specs.declared.refusal.Refusal.{Refusal}
 use Rattle.reg_journal.specs.declared.refusal.Refusal.TheVariants.{Power, TooManyRows, BadRule, ElementShort, ElementOdd}
@@ -27,8 +25,8 @@ use Rattle.reg_journal.proofs.OneCause.{NamesOne, one-where, one-before, one-at_
 
 -- ---- single causes
 
-one-passes_limit : (db : List Domain) (J : Journal) (x : Iface) (c : ChanDef) → NamesOne (PassesLimit db J x c)
-one-passes_limit db J x c e other (a, is, above, here) (b, is', above', there) =
+one-passes_limit : (db : List Domain) (J : Journal) (x : Iface) (setting : PowerSetting) (c : ChanDef) → NamesOne (PassesLimit db J x setting c)
+one-passes_limit db J x setting c e other (a, is, above, here) (b, is', above', there) =
     here ∙ ap Power (IsLimit-unique (applies db J x.radio) (asked_by J x c) a b is is') ∙ sym there
 
 one-rows : (lists : List (List Domain)) → NamesOne (RowCauses lists)
@@ -54,35 +52,33 @@ one-bad_rule rules e other (k, first, here) (l, first', there) = here ∙ ap Bad
 
 -- ---- channels
 
+one-radio_forbids : (db : List Domain) (J : Journal) (x : Iface) (c : ChanDef) → NamesOne (RadioForbids db J x c)
+one-radio_forbids db J x c = one-before _ _ (one-at_lowest _ c _) (one-where _ _)
+
+one-radar_forbids : (db : List Domain) (J : Journal) (x : Iface) (c : ChanDef) → NamesOne (RadarForbids db J x c)
+one-radar_forbids db J x c = one-before _ _ (one-where _ _) (one-at_lowest _ c _)
+
+-- the rules, power, radar and checks
+one-behind : (db : List Domain) (J : Journal) (x : Iface) (c : ChanDef)
+    → NamesOne (RulesForbid db J x c before PassesLimit db J x x.setting c before RadarForbids db J x c before LacksCheck db J x c)
+one-behind db J x c =
+    one-before _ _ (one-rules_forbid db J x c)
+    (one-before _ _ (one-passes_limit db J x x.setting c)
+    (one-before _ _ (one-radar_forbids db J x c)
+    (one-at_lowest _ c _)))
+
 pub one-ends_operation : (db : List Domain) (J : Journal) (x : Iface) (c : ChanDef) → NamesOne (EndsOperation db J x c)
-one-ends_operation db J x c =
-    one-before _ _ (one-at_lowest _ c _)
-    (one-before _ _ (one-where _ _)
-    (one-before _ _ (one-rules_forbid db J x c)
-    (one-before _ _ (one-passes_limit db J x c)
-    (one-before _ _ (one-where _ _)
-    (one-before _ _ (one-at_lowest _ c _)
-    (one-at_lowest _ c _))))))
+one-ends_operation db J x c = one-before _ _ (one-radio_forbids db J x c) (one-behind db J x c)
 
 one-bars_operation : (db : List Domain) (J : Journal) (x : Iface) (c : ChanDef) → NamesOne (BarsOperation db J x c)
-one-bars_operation db J x c =
-    one-before _ _ (one-at_lowest _ c _)
-    (one-before _ _ (one-where _ _)
-    (one-before _ _ (one-where _ _)
-    (one-before _ _ (one-rules_forbid db J x c)
-    (one-before _ _ (one-passes_limit db J x c)
-    (one-before _ _ (one-where _ _)
-    (one-before _ _ (one-at_lowest _ c _)
-    (one-at_lowest _ c _)))))))
+one-bars_operation db J x c = one-before _ _ (one-radio_forbids db J x c) (one-before _ _ (one-where _ _) (one-behind db J x c))
 
 one-bars_check : (db : List Domain) (J : Journal) (x : Iface) (c : ChanDef) → NamesOne (BarsCheck db J x c)
 one-bars_check db J x c =
-    one-before _ _ (one-at_lowest _ c _)
-    (one-before _ _ (one-where _ _)
+    one-before _ _ (one-radio_forbids db J x c)
     (one-before _ _ (one-where _ _)
     (one-before _ _ (one-rules_forbid db J x c)
-    (one-before _ _ (one-where _ _)
-    (one-at_lowest _ c _)))))
+    (one-radar_forbids db J x c)))
 
 -- ---- requests
 
@@ -119,8 +115,8 @@ one-element J r body = one-before _ _ (one-where _ _) (one-before _ _ short (one
     odd : NamesOne (λ e. (n : ℕ) × IsElementFault body (Odd n) × (e ≡ ElementOdd n))
     odd e other (n, is, here) (m, is', there) = here ∙ ap ElementOdd (is.0 ∙ sym is'.0) ∙ sym there
 
-pub one-hint : (db : List Domain) (J : Journal) (a : Alpha2) (hint : Hinted) → NamesOne (HintCauses db J a hint)
-one-hint db J a hint = one-before _ _ (one-where _ _) (one-before _ _ (one-where _ _) (one-rows (all_lists db (hinted hint ∷ J))))
+pub one-hint : (db : List Domain) (J : Journal) (hint : Hinted) → NamesOne (HintCauses db J hint)
+one-hint db J hint = one-before _ _ (one-where _ _) (one-before _ _ (one-where _ _) (one-rows (all_lists db (hinted hint ∷ J))))
 
 pub one-radar : (J : Journal) (r : ℕ) (c : ChanDef) → NamesOne (RadarCauses J r c)
 one-radar J r c = one-before _ _ (one-where _ _) (one-where _ _)
@@ -137,11 +133,9 @@ one-set_type J name = one-on_iface J name _ (λ x. one-where _ _)
 pub one-set_power : (db : List Domain) (J : Journal) (name : List ℕ) (setting : PowerSetting) → NamesOne (SetPowerCauses db J name setting)
 one-set_power db J name setting = one-on_iface J name _ (λ x. above x (operation_of J x.index))
   where
-    above : (x : Iface) (o : Option Operation)
-        → NamesOne (λ e. IsSomeAnd o (λ o. (limit : ℕ) × IsLimitOf db J x o.chan limit × IsAbove setting limit × (e ≡ Power limit)))
+    above : (x : Iface) (o : Option Operation) → NamesOne (λ e. IsSomeAnd o (λ o. PassesLimit db J x setting o.chan e))
     above x None e other here there = absurd here
-    above x (Some o) e other (a, is, over, here) (b, is', over', there) =
-        here ∙ ap Power (IsLimit-unique (applies db J x.radio) (asked_by J x o.chan) a b is is') ∙ sym there
+    above x (Some o) e other here there = one-passes_limit db J x setting o.chan e other here there
 
 pub one-stop : (J : Journal) (name : List ℕ) (kind : Kind) → NamesOne (StopCauses J name kind)
 one-stop J name kind = one-on_iface J name _ (λ x. one-before _ _ (one-where _ _) (one-where _ _))

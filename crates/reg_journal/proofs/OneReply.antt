@@ -24,8 +24,9 @@ use Rattle.dfs_states.specs.declared.dfs.Dfs.TheVariants.{Usable, Unavailable, A
 use Rattle.dfs_states.proofs.Most.{greatest_same}
 use Rattle.dfs_states.specs.Greatest.{IsGreatest}
 use Rattle.reg_hints.specs.Element.{IsElement}
-use Rattle.reg_hints.specs.Table.{Hinted}
+use Rattle.reg_hints.specs.Table.{Hinted, Treated}
 use Rattle.reg_hints.specs.declared.element.Element.{Element}
+use Rattle.reg_hints.specs.declared.hint.Hint.TheVariants.{User}
 use Rattle.reg_journal.specs.Facts.{Fact, Journal, stopped, powered, check_dropped, started, check_begun, set_to}
 use Rattle.reg_journal.specs.Present.{Iface, Operation, Check, abilities_of, named, operation_of, check_of, with_setting, now_of, radios_of}
 use Rattle.reg_journal.specs.Applicable.{applies, global_domains, global_region, region_of}
@@ -34,7 +35,7 @@ use Rattle.reg_journal.specs.Permits.{asked_by, IsPowerOf, IsLengthOf}
 use Rattle.reg_journal.specs.Sweep.{OperationBecomes, CheckBecomes, Becomes, AreSwept}
 use Rattle.reg_journal.specs.Effects.{effects_of}
 use Rattle.reg_journal.specs.Dumps.{AreShown, row_shown, IsSection, IsRadioSection, AreSections, has_own_list, fit_shown, IsShownChannel, AreShownChannels, IsRadioReport, IsIfaceReport}
-use Rattle.reg_journal.specs.Replies.{facts_of_end, Decides, Gives, GivesEffects, Sweeps, Shows, OnNamed, Hints, Hears, element_hint, SetsPower, Replies}
+use Rattle.reg_journal.specs.Replies.{facts_of_end, Decides, Gives, GivesEffects, Sweeps, Shows, OnNamed, Hints, Hears, driver_hint, element_hint, SetsPower, Replies}
 use Rattle.reg_journal.specs.declared.refusal.Refusal.{Refusal}
 use Rattle.reg_journal.specs.declared.reply.Answer.{Answer}
 use Rattle.reg_journal.specs.declared.reply.Answer.TheVariants.{Ok, Started, Checking, Refused}
@@ -136,8 +137,8 @@ one-sweeps db J answer fact xs one other facts others (swept, are, reply, all) (
 
 -- ---- hints
 
-one-hints : (db : List Domain) (J : Journal) (a : Alpha2) (hint : Hinted) → ComesToOne (Hints db J a hint)
-one-hints db J a hint = one-decides _ _ (one-hint db J a hint) (one-sweeps db J _ _ _)
+one-hints : (db : List Domain) (J : Journal) (hint : Hinted) → ComesToOne (Hints db J hint)
+one-hints db J hint = one-decides _ _ (one-hint db J hint) (one-sweeps db J _ _ _)
 
 -- the body of an element names one code
 one-code : (body : List ℕ) (e f : Element) → IsElement body e → IsElement body f → e.alpha2 ≡ f.alpha2
@@ -149,10 +150,10 @@ one-code body e f is is' = same e.alpha2.a e.alpha2.b f.alpha2.a f.alpha2.b (is.
 one-hears : (db : List Domain) (J : Journal) (r : ℕ) (body : List ℕ) → ComesToOne (Hears db J r body)
 one-hears db J r body = one-decides _ _ (one-element J r body) given
   where
-    given : ComesToOne (λ reply facts. (e : Element) × IsElement body e × Hints db J e.alpha2 (element_hint J r e.alpha2) reply facts)
+    given : ComesToOne (λ reply facts. (e : Element) × IsElement body e × Hints db J (element_hint J r e.alpha2) reply facts)
     given one other facts others (e, is, here) (f, is', there) =
-        one-hints db J f.alpha2 (element_hint J r f.alpha2) one other facts others
-        (subst (λ a. Hints db J a (element_hint J r a) one facts) (one-code body e f is is') here) there
+        one-hints db J (element_hint J r f.alpha2) one other facts others
+        (subst (λ a. Hints db J (element_hint J r a) one facts) (one-code body e f is is') here) there
 
 -- ---- powers that are set
 
@@ -289,8 +290,8 @@ one-reply db J (RadioAdd r profile) failed = one-decides _ _ (one-radio_add J r)
 one-reply db J (RadioDel r) failed = one-decides _ _ (one-radio J r) (one-gives_effects J _ _)
 one-reply db J (RadioRules r rules) failed = one-decides _ _ (one-rules db J r rules) (one-sweeps db J _ _ _)
 one-reply db J (HeardElement r body) failed = one-hears db J r body
-one-reply db J (DriverHint r a) failed = one-decides _ _ (one-radio J r) (one-hints db J a _)
-one-reply db J (UserHint a) failed = one-hints db J a _
+one-reply db J (DriverHint r a) failed = one-decides _ _ (one-radio J r) (one-hints db J (driver_hint J r a))
+one-reply db J (UserHint a) failed = one-hints db J (Treated (User a))
 one-reply db J (Radar r c) failed = one-decides _ _ (one-radar J r c) (one-sweeps db J _ _ _)
 one-reply db J (Indoor on) failed = one-sweeps db J _ _ _
 one-reply db J (IfaceAdd r name kind) failed = one-decides _ _ (one-iface_add J r name) (one-gives _ _)

@@ -10,25 +10,26 @@ use Rattle.chan_def.specs.Covered.{width_khz, IsValidDef}
 use Rattle.chan_def.specs.Kinds.{initiates}
 use Rattle.chan_def.specs.declared.definition.ChanDef.{ChanDef}
 use Rattle.chan_flags.specs.Profiles.{has_band}
-use Rattle.chan_flags.specs.Verdicts.{Bars, BarsNone, HasWidth, IsWithinLimit, NoneBars}
+use Rattle.chan_flags.specs.Verdicts.{Bars, BarsNone, IsWithinLimit, NoneBars}
 use Rattle.chan_flags.specs.declared.asked.Obstacle.{Obstacle}
 use Rattle.chan_flags.specs.declared.asked.Obstacle.TheVariants.{Missing, Unruled, Narrow, OfdmBarred, IrBarred, OutdoorBarred}
 use Rattle.chan_flags.specs.declared.profile.Bands.{Bands}
-use Rattle.chan_flags.proofs.Existing.{first_or_none, some_length, told_bars, told_covered, told_governing, told_not, told_true, within_or_above}
-use Rattle.chan_flags.proofs.Granted.{granting_from_verdict}
+use Rattle.chan_flags.specs.declared.verdict.PowerSetting.{PowerSetting}
+use Rattle.chan_flags.proofs.Existing.{first_or_none, told_bars, told_covered, told_governing, told_not, told_true, within_or_above}
+use Rattle.chan_flags.proofs.Granted.{power_within}
 use Rattle.chan_flags.proofs.Told.{told_radio_channel}
 use Rattle.reg_journal.specs.Facts.{Journal}
 use Rattle.reg_journal.specs.Present.{Check, Iface, abilities_of}
 use Rattle.reg_journal.specs.Applicable.{applies}
 use Rattle.reg_journal.specs.Causes.{IsFree, ◌before◌, Where, AtLowest}
-use Rattle.reg_journal.specs.Permits.{asked_by, channels_beside, distinct, width_mhz, IsBoundOn, IsLimitOf, IsPowerOf, LacksChannel, LacksWidth, LacksContext, RulesForbid, PassesLimit, LacksRadarWidth, MetRadar, LacksCheck, EndsOperation, EndsCheck, BarsCheck, BarsOperation}
+use Rattle.reg_journal.specs.Permits.{asked_by, channels_beside, distinct, width_mhz, IsBoundOn, IsLimitOf, IsPowerOf, LacksChannel, LacksWidth, LacksContext, OnEachBound, RadarForbids, RadioForbids, RulesForbid, PassesLimit, LacksRadarWidth, MetRadar, LacksCheck, EndsOperation, EndsCheck, BarsCheck, BarsOperation}
 use Rattle.reg_journal.specs.Radar.{IsQuiet, NoneStands, Stands}
-use Rattle.reg_journal.specs.Granted.{IsGranted, IsPermitted}
+use Rattle.reg_journal.specs.Granted.{FitsRules, IsCarried, IsGranted, IsPermitted}
 use Rattle.reg_journal.specs.Settled.{IsCheckPermitted}
 use Rattle.reg_journal.specs.Sweep.{MustDrop}
 use Rattle.reg_journal.specs.declared.refusal.Refusal.{Refusal}
 use Rattle.reg_journal.specs.declared.refusal.Refusal.TheVariants.{RadioLacks, NoRule, Width as TooNarrow, NoOfdm, NoIr, NoOutdoor, Power, Radar, Unchecked}
-use Rattle.reg_journal.proofs.Granting.{OnEachBound, whole_mhz}
+use Rattle.reg_journal.proofs.Fitting.{channels_of_none_bars, fits_of_none_bars, fits_with, has_width}
 use Rattle.reg_journal.proofs.ToldStates.{some_stands, told_quiet}
 
 -- ---- what no cause says
@@ -54,10 +55,10 @@ none_barred : (db : List Domain) (J : Journal) (x : Iface) (c : ChanDef) (obstac
 none_barred db J x c obstacle refusal free =
     none_of_free (Bars (applies db J x.radio) (asked_by J x c) obstacle) c refusal (told_bars (applies db J x.radio) (asked_by J x c) obstacle) free
 
-has_width : (J : Journal) (x : Iface) (c : ChanDef) → IsFree (LacksWidth J x c) → HasWidth (asked_by J x c)
-has_width J x c free = elim (cases_lt (abilities_of J x.radio).width_mhz (width_mhz c)) [
+wide_enough : (J : Journal) (x : Iface) (c : ChanDef) → IsFree (LacksWidth J x c) → width_mhz c ≤ (abilities_of J x.radio).width_mhz
+wide_enough J x c free = elim (cases_lt (abilities_of J x.radio).width_mhz (width_mhz c)) [
   | inl less ↦ absurd (never_where _ _ free less)
-  | inr wide ↦ let whole = whole_mhz c.width in omega (arith, wide, whole)
+  | inr wide ↦ wide
 ]
 
 no_rule_bars : (db : List Domain) (J : Journal) (x : Iface) (c : ChanDef) → IsFree (RulesForbid db J x c)
@@ -80,8 +81,9 @@ no_rule_bars db J x c free =
       ),
     )
 
-pub within : (db : List Domain) (J : Journal) (x : Iface) (c : ChanDef) (limit : ℕ) → IsFree (PassesLimit db J x c) → IsLimitOf db J x c limit → IsWithinLimit x.setting limit
-within db J x c limit free is = elim (within_or_above x.setting limit) [
+pub within : (db : List Domain) (J : Journal) (x : Iface) (setting : PowerSetting) (c : ChanDef) (limit : ℕ) → IsFree (PassesLimit db J x setting c) → IsLimitOf db J x c limit
+    → IsWithinLimit setting limit
+within db J x setting c limit free is = elim (within_or_above setting limit) [
   | inl below ↦ below
   | inr above ↦ absurd (free (Power limit) (limit, is, above, refl))
 ]
@@ -121,91 +123,104 @@ is_checked db J x c free sends s covered bound = elim (some_stands db J x.radio 
 
 -- ---- what may go on
 
+-- no obstacle bars the channel, where neither the radio nor the rules forbid it
+none_bars : (db : List Domain) (J : Journal) (x : Iface) (c : ChanDef) → IsFree (RadioForbids db J x c) → IsFree (RulesForbid db J x c)
+    → NoneBars (Bars (applies db J x.radio) (asked_by J x c)) c (Missing ∷ Unruled ∷ Narrow ∷ OfdmBarred ∷ IrBarred ∷ OutdoorBarred ∷ [])
+none_bars db J x c radio rules = (none_barred db J x c Missing RadioLacks (free-first _ _ radio), no_rule_bars db J x c rules)
+
+-- the radio carries the channel
+is_carried : (db : List Domain) (J : Journal) (x : Iface) (c : ChanDef) → IsFree (RadioForbids db J x c) → IsFree (RulesForbid db J x c) → IsFree (RadarForbids db J x c) → IsCarried db J x c
+is_carried db J x c radio rules radar =
+    let wide = wide_enough J x c (free-next (LacksChannel db J x c) _ radio) in
+    record {
+      channels = channels_of_none_bars db J x c (has_width J x c wide) (none_bars db J x c radio rules);
+      width = wide;
+      radar_width = has_radar_width db J x c (free-first _ _ radar);
+    }
+
+-- it fits, whatever the power
+fits_unpowered : (db : List Domain) (J : Journal) (x : Iface) (c : ChanDef) → IsFree (RadioForbids db J x c) → IsFree (RulesForbid db J x c) → FitsRules db J x c 0
+fits_unpowered db J x c radio rules =
+    fits_of_none_bars db J x c (has_width J x c (wide_enough J x c (free-next (LacksChannel db J x c) _ radio))) (none_bars db J x c radio rules)
+
 -- what is left of the causes behind the radio's channels, width and contexts
 abbrev pub Forbids : List Domain → Journal → Iface → ChanDef → Refusal → Type 0
-Forbids db J x c =
-    RulesForbid db J x c before PassesLimit db J x c before LacksRadarWidth db J x c before MetRadar db J x c before LacksCheck db J x c
+Forbids db J x c = RulesForbid db J x c before PassesLimit db J x x.setting c before RadarForbids db J x c before LacksCheck db J x c
 
-permitted_of_parts : (db : List Domain) (J : Journal) (x : Iface) (c : ChanDef) (power : ℕ) → IsFree (LacksChannel db J x c) → IsFree (LacksWidth J x c)
-    → IsFree (Forbids db J x c) → IsPowerOf db J x c power → IsPermitted db J x c power
-permitted_of_parts db J x c power channels width free (limit, is, power_is) =
+permitted_of_parts : (db : List Domain) (J : Journal) (x : Iface) (c : ChanDef) (power : ℕ) → IsFree (RadioForbids db J x c) → IsFree (Forbids db J x c) → IsPowerOf db J x c power
+    → IsPermitted db J x c power
+permitted_of_parts db J x c power radio free (limit, is, power_is) =
+    let rules = free-first _ _ free in
     let passes = free-next (RulesForbid db J x c) _ free in
-    let lacks = free-next (PassesLimit db J x c) _ passes in
-    let met = free-next (LacksRadarWidth db J x c) _ lacks in
-    let unchecked = free-next (MetRadar db J x c) _ met in
-    let length = some_length (applies db J x.radio) (asked_by J x c) in
+    let radar = free-next (PassesLimit db J x x.setting c) _ passes in
+    let unchecked = free-next (RadarForbids db J x c) _ radar in
+    let met = free-next (LacksRadarWidth db J x c) _ (free-first (RadarForbids db J x c) _ radar) in
+    let low = within db J x x.setting c limit (free-first _ _ passes) is in
     record {
-      fits = (
-        length.0,
-        granting_from_verdict (applies db J x.radio) (asked_by J x c) power length.0 (record {
-          has_width = has_width J x c width;
-          none_bars = (none_barred db J x c Missing RadioLacks channels, no_rule_bars db J x c (free-first _ _ free));
-          limit = limit;
-          is_limit = is;
-          within = within db J x c limit (free-first _ _ passes) is;
-          power_is = power_is;
-          length_is = length.1;
-        }),
-      );
-      radar_width = has_radar_width db J x c (free-first _ _ lacks);
+      carried = is_carried db J x c radio rules (free-first _ _ radar);
+      fits = fits_with db J x c 0 power x.setting (fits_unpowered db J x c radio rules) (λ s d g covered has governs.
+          let most = is.rules s d g covered has governs in
+          let below = power_within x.setting limit low in
+          omega (arith, most, below, power_is));
+      given = record { limit = limit; is_limit = is; power_is = power_is; within = low };
       clear = λ sends s covered bound.
           let check = is_checked db J x c unchecked sends s covered bound in
-          record { quiet = is_quiet db J x c (free-first _ _ met) sends s covered bound; end = check.0; stands = check.1 };
+          record { quiet = is_quiet db J x c met sends s covered bound; end = check.0; stands = check.1 };
     }
 
 -- an operation that nothing ends may go on with the power of its setting
 pub permitted_of_free : (db : List Domain) (J : Journal) (x : Iface) (c : ChanDef) (power : ℕ) → IsFree (EndsOperation db J x c) → IsPowerOf db J x c power
     → IsPermitted db J x c power
-permitted_of_free db J x c power free is =
-    let width = free-next (LacksChannel db J x c) _ free in
-    permitted_of_parts db J x c power (free-first _ _ free) (free-first _ _ width) (free-next (LacksWidth J x c) _ width) is
+permitted_of_free db J x c power free is = permitted_of_parts db J x c power (free-first _ _ free) (free-next (RadioForbids db J x c) _ free) is
 
 -- a start on a valid channel that nothing bars is granted
 pub granted_of_free : (db : List Domain) (J : Journal) (x : Iface) (c : ChanDef) (power : ℕ) → IsValidDef c → IsFree (BarsOperation db J x c) → IsPowerOf db J x c power
     → IsGranted db J x c power
 granted_of_free db J x c power valid free is =
-    let width = free-next (LacksChannel db J x c) _ free in
-    let context = free-next (LacksWidth J x c) _ width in
+    let context = free-next (RadioForbids db J x c) _ free in
+    let may = permitted_of_parts db J x c power (free-first _ _ free) (free-next (LacksContext J x c) _ context) is in
     record {
       valid = valid;
-      contexts = elim (cases_lt (abilities_of J x.radio).contexts (length (distinct (c ∷ channels_beside J x)))) [
-        | inl less ↦ absurd (never_where _ _ (free-first (LacksContext J x c) _ context) less)
-        | inr few ↦ few
-      ];
-      permitted = permitted_of_parts db J x c power (free-first _ _ free) (free-first _ _ width) (free-next (LacksContext J x c) _ context) is;
+      supported = record {
+        carried = may.carried;
+        contexts = elim (cases_lt (abilities_of J x.radio).contexts (length (distinct (c ∷ channels_beside J x)))) [
+          | inl less ↦ absurd (never_where _ _ (free-first (LacksContext J x c) _ context) less)
+          | inr few ↦ few
+        ];
+      };
+      fits = may.fits;
+      given = may.given;
+      clear = may.clear;
     }
+
+-- what neither the radio, the rules nor radar forbid: the radio carries it, it fits, and all is quiet
+pub record HasCheckable (db : List Domain) (J : Journal) (x : Iface) (c : ChanDef) : Type 0 where
+  pub carried : IsCarried db J x c
+  pub fits : FitsRules db J x c 0
+  pub quiet : OnEachBound db J x c (IsQuiet J x.radio)
+
+checkable : (db : List Domain) (J : Journal) (x : Iface) (c : ChanDef) → IsFree (RadioForbids db J x c) → IsFree (RulesForbid db J x c) → IsFree (RadarForbids db J x c)
+    → HasCheckable db J x c
+checkable db J x c radio rules radar = record {
+  carried = is_carried db J x c radio rules radar;
+  fits = fits_unpowered db J x c radio rules;
+  quiet = is_quiet db J x c (free-next (LacksRadarWidth db J x c) _ radar);
+}
 
 -- a running check that needn't go may go on
 pub check_permitted_of_kept : (db : List Domain) (J : Journal) (x : Iface) (k : Check) → (MustDrop db J x k → ⊥) → IsCheckPermitted db J x k
 check_permitted_of_kept db J x k stays =
     let free : IsFree (EndsCheck db J x k.chan) = λ e cause. stays (inl (e, cause)) in
-    let width = free-next (LacksChannel db J x k.chan) _ free in
-    let rules = free-next (LacksWidth J x k.chan) _ width in
-    let lacks = free-next (RulesForbid db J x k.chan) _ rules in
-    record {
-      has_width = has_width J x k.chan (free-first _ _ width);
-      none_bars = (none_barred db J x k.chan Missing RadioLacks (free-first _ _ free), no_rule_bars db J x k.chan (free-first _ _ rules));
-      radar_width = has_radar_width db J x k.chan (free-first _ _ lacks);
-      quiet = is_quiet db J x k.chan (free-next (LacksRadarWidth db J x k.chan) _ lacks);
-      same_region = λ changed. stays (inr changed);
-    }
+    let rest = free-next (RadioForbids db J x k.chan) _ free in
+    let may = checkable db J x k.chan (free-first _ _ free) (free-first _ _ rest) (free-next (RulesForbid db J x k.chan) _ rest) in
+    record { carried = may.carried; fits = may.fits; quiet = may.quiet; same_region = λ changed. stays (inr changed) }
 
--- a check that nothing bars finds the radio with the channel, its width and its width for radar, no rule against it, and quiet
-pub check_of_free : (db : List Domain) (J : Journal) (x : Iface) (c : ChanDef) → IsFree (BarsCheck db J x c)
-    → HasWidth (asked_by J x c)
-    × NoneBars (Bars (applies db J x.radio) (asked_by J x c)) c (Missing ∷ Unruled ∷ Narrow ∷ OfdmBarred ∷ IrBarred ∷ OutdoorBarred ∷ [])
-    × OnEachBound db J x c (λ s. width_mhz c ≤ (abilities_of J x.radio).radar_mhz)
-    × OnEachBound db J x c (IsQuiet J x.radio)
+-- nor does anything forbid a check that nothing bars
+pub check_of_free : (db : List Domain) (J : Journal) (x : Iface) (c : ChanDef) → IsFree (BarsCheck db J x c) → HasCheckable db J x c
 check_of_free db J x c free =
-    let width = free-next (LacksChannel db J x c) _ free in
-    let context = free-next (LacksWidth J x c) _ width in
+    let context = free-next (RadioForbids db J x c) _ free in
     let rules = free-next (LacksContext J x c) _ context in
-    let lacks = free-next (RulesForbid db J x c) _ rules in (
-      has_width J x c (free-first _ _ width),
-      (none_barred db J x c Missing RadioLacks (free-first _ _ free), no_rule_bars db J x c (free-first _ _ rules)),
-      has_radar_width db J x c (free-first _ _ lacks),
-      is_quiet db J x c (free-next (LacksRadarWidth db J x c) _ lacks),
-    )
+    checkable db J x c (free-first _ _ free) (free-first _ _ rules) (free-next (RulesForbid db J x c) _ rules)
 
 -- ---- valid channels
 

@@ -1,70 +1,56 @@
 -- A request for another power.
-use Rattle.std.proofs.Common.{◌≡◌, ◌≢◌, ℕ, ◌⊎◌, List, [], ◌∷◌, map, Contains, Option, Some, None, IsSomeAnd, is_some, refl, sym, ap, subst, ◌∙◌, inl, inr, eq-eqb, ne_eqb}
+use Rattle.std.proofs.Common.{◌≡◌, ◌≢◌, ℕ, ◌⊎◌, List, [], ◌∷◌, map, Contains, Option, Some, None, IsSomeAnd, is_some, arith, refl, sym, ap, subst, ◌∙◌, inl, inr, eq-eqb, ne_eqb}
 use Rattle.std.proofs.lemmas.Bool.{cases_eq}
 use Rattle.std.proofs.lemmas.Option.{same_Some}
 use Rattle.freq_range.proofs.Members.{Contains-cases, Contains-head, Contains-later, Contains-nothing}
 use Rattle.rule_tables.specs.declared.domain.Domain.{Domain}
 use Rattle.chan_def.specs.declared.definition.ChanDef.{ChanDef}
-use Rattle.chan_flags.specs.Verdicts.{IsAbove, IsWithinLimit, power_of}
+use Rattle.chan_flags.specs.Verdicts.{IsWithinLimit, power_of}
 use Rattle.chan_flags.specs.declared.verdict.PowerSetting.{PowerSetting}
-use Rattle.chan_flags.proofs.Existing.{within_or_above}
-use Rattle.chan_flags.proofs.Granted.{granting_from_verdict, verdict_from_granting}
-use Rattle.reg_journal.specs.Applicable.{applies}
+use Rattle.chan_flags.proofs.Granted.{power_within}
+use Rattle.reg_journal.specs.Causes.{IsFree}
 use Rattle.reg_journal.specs.Due.{MayFollow}
 use Rattle.reg_journal.specs.Facts.{Journal, powered, set_to}
 use Rattle.reg_journal.specs.Granted.{IsPermitted}
-use Rattle.reg_journal.specs.Permits.{asked_by, IsLimitOf, IsPowerOf}
+use Rattle.reg_journal.specs.Permits.{IsLimitOf, IsPowerOf, PassesLimit}
 use Rattle.reg_journal.specs.Present.{Check, Iface, Operation, check_of, ifaces_of, indexed, operation_of, with_setting}
 use Rattle.reg_journal.specs.Settled.{AreSettled, IsCheckPermitted, IsSettled}
+use Rattle.reg_journal.proofs.Fitting.{carried_with, fits_with}
 use Rattle.reg_journal.proofs.Indexes.{LacksIndex}
 use Rattle.reg_journal.proofs.Judged.{check_settled, idle_settled, operation_settled, settled_check, settled_operation}
 use Rattle.reg_journal.proofs.Keeping.{Goes, leaves-each}
 use Rattle.reg_journal.proofs.Lasting.{check_permitted_stays, permitted_stays}
 use Rattle.reg_journal.proofs.Listed.{Contains-map, indexed_listed}
+use Rattle.reg_journal.proofs.Permitting.{within}
 use Rattle.reg_journal.proofs.Regular.{goes_on, stays}
 use Rattle.reg_journal.proofs.Swept.{IsSweepDone, permitted_power_fits, sweep_done}
 
 -- what is permitted with one setting is so with another, if its power is within the limit
 permitted_with : (db : List Domain) (J : Journal) (x : Iface) (c : ChanDef) (old power : ℕ) (setting : PowerSetting) (limit : ℕ) → IsPermitted db J x c old
     → IsLimitOf db J (record x { setting = setting }) c limit → IsWithinLimit setting limit → power ≡ power_of setting limit → IsPermitted db J (record x { setting = setting }) c power
-permitted_with db J x c old power setting limit may is within same =
-    let ds = applies db J x.radio in
-    let verdict = verdict_from_granting ds (asked_by J x c) old may.fits.0 may.fits.1 in
-    record {
-      fits = (
-        may.fits.0,
-        granting_from_verdict ds (asked_by J (record x { setting = setting }) c) power may.fits.0 (record {
-          has_width = verdict.has_width;
-          none_bars = verdict.none_bars;
-          limit = limit;
-          is_limit = is;
-          within = within;
-          power_is = same;
-          length_is = record { rules = verdict.length_is.rules; greatest = verdict.length_is.greatest };
-        }),
-      );
-      radar_width = may.radar_width;
-      clear = may.clear;
-    }
+permitted_with db J x c old power setting limit may is within same = record {
+  carried = carried_with db J x c setting may.carried;
+  fits = fits_with db J x c old power setting may.fits (λ s d g covered has governs.
+      let most = is.rules s d g covered has governs in
+      let below = power_within setting limit within in
+      omega (arith, most, below, same));
+  given = record { limit = limit; is_limit = is; power_is = same; within = within };
+  clear = may.clear;
+}
 
 check_with : (db : List Domain) (J : Journal) (x : Iface) (k : Check) (setting : PowerSetting) → IsCheckPermitted db J x k → IsCheckPermitted db J (record x { setting = setting }) k
 check_with db J x k setting may = record {
-  has_width = may.has_width;
-  none_bars = may.none_bars;
-  radar_width = may.radar_width;
+  carried = carried_with db J x k.chan setting may.carried;
+  fits = fits_with db J x k.chan 0 0 setting may.fits (λ s d g covered has governs. omega arith);
   quiet = may.quiet;
-  same_region = λ changed. may.same_region (record {
-    newer = changed.newer;
-    chan = changed.chan;
-    length = changed.length;
-    older = changed.older;
-    begun = changed.begun;
-    last = changed.last;
-    later = changed.later;
-    fact = changed.fact;
-    between = changed.between;
-    at = changed.at;
-    differs = changed.differs;
+  same_region = λ moved. may.same_region (record {
+    newer = moved.newer;
+    chan = moved.chan;
+    length = moved.length;
+    older = moved.older;
+    begun = moved.begun;
+    last = moved.last;
+    changed = moved.changed;
   });
 }
 
@@ -129,24 +115,19 @@ goes_set_idle db J x setting goes has none = goes_on db J (set_to x.index settin
 
 -- where it has one, that is permitted with the power of the setting
 set_permitted : (db : List Domain) (J : Journal) (x : Iface) (o : Operation) (setting : PowerSetting) (power : ℕ) → Goes db J → Contains (ifaces_of J) x → operation_of J x.index ≡ Some o
-    → ((limit : ℕ) → IsLimitOf db J x o.chan limit → IsAbove setting limit → ⊥) → IsPowerOf db J (record x { setting = setting }) o.chan power
+    → IsFree (PassesLimit db J x setting o.chan) → IsPowerOf db J (record x { setting = setting }) o.chan power
     → IsPermitted db (set_to x.index setting ∷ J) (record x { setting = setting }) o.chan power
-set_permitted db J x o setting power goes has is below (limit, is_limit, same) =
+set_permitted db J x o setting power goes has is free (limit, is_limit, same) =
     permitted_stays db (set_to x.index setting) J (record x { setting = setting }) o.chan power (set_due db J x setting goes has, goes.due)
     (leaves-each db (set_to x.index setting) J x.radio tt)
     (record { there = set_there (ifaces_of J) x setting has; power = o.power; on_channel = is })
-    (permitted_with db J x o.chan o.power power setting limit (settled_operation db J x o is (goes.settled x has)) is_limit within same)
-  where
-    within : IsWithinLimit setting limit
-    within = elim (within_or_above setting limit) [
-      | inl low ↦ low
-      | inr above ↦ absurd (below limit (record { radio = is_limit.radio; rules = is_limit.rules; least = is_limit.least }) above)
-    ]
+    (permitted_with db J x o.chan o.power power setting limit (settled_operation db J x o is (goes.settled x has)) is_limit
+    (within db J x setting o.chan limit free (record { radio = is_limit.radio; rules = is_limit.rules; least = is_limit.least })) same)
 
 pub goes_set_same : (db : List Domain) (J : Journal) (x : Iface) (o : Operation) (setting : PowerSetting) (power : ℕ) → Goes db J → Contains (ifaces_of J) x → operation_of J x.index ≡ Some o
-    → ((limit : ℕ) → IsLimitOf db J x o.chan limit → IsAbove setting limit → ⊥) → IsPowerOf db J (record x { setting = setting }) o.chan power → power ≡ o.power
+    → IsFree (PassesLimit db J x setting o.chan) → IsPowerOf db J (record x { setting = setting }) o.chan power → power ≡ o.power
     → Goes db (set_to x.index setting ∷ J)
-goes_set_same db J x o setting power goes has is below is_power same = goes_on db J (set_to x.index setting) goes due tt settled
+goes_set_same db J x o setting power goes has is free is_power same = goes_on db J (set_to x.index setting) goes due tt settled
   where
     due : MayFollow db J (set_to x.index setting)
     due = set_due db J x setting goes has
@@ -156,13 +137,13 @@ goes_set_same db J x o setting power goes has is below is_power same = goes_on d
       | inl other ↦ other.0
       | inr is_x ↦ subst (IsSettled db (set_to x.index setting ∷ J)) (sym is_x)
           (operation_settled db (set_to x.index setting ∷ J) (record x { setting = setting }) o is
-          (subst (IsPermitted db (set_to x.index setting ∷ J) (record x { setting = setting }) o.chan) same (set_permitted db J x o setting power goes has is below is_power)))
+          (subst (IsPermitted db (set_to x.index setting ∷ J) (record x { setting = setting }) o.chan) same (set_permitted db J x o setting power goes has is free is_power)))
     ]
 
 pub goes_set_powered : (db : List Domain) (J : Journal) (x : Iface) (o : Operation) (setting : PowerSetting) (power : ℕ) → Goes db J → Contains (ifaces_of J) x → operation_of J x.index ≡ Some o
-    → ((limit : ℕ) → IsLimitOf db J x o.chan limit → IsAbove setting limit → ⊥) → IsPowerOf db J (record x { setting = setting }) o.chan power
+    → IsFree (PassesLimit db J x setting o.chan) → IsPowerOf db J (record x { setting = setting }) o.chan power
     → Goes db (powered x.index power ∷ set_to x.index setting ∷ J)
-goes_set_powered db J x o setting power goes has is below is_power = record {
+goes_set_powered db J x o setting power goes has is free is_power = record {
   due = done.due;
   settled = λ y there. let was = subst (λ xs. Contains xs y) done.ifaces there in done.settled y was (which y was);
   plain = (tt, (tt, goes.plain));
@@ -175,7 +156,7 @@ goes_set_powered db J x o setting power goes has is below is_power = record {
     next = set_to x.index setting ∷ J
 
     may : IsPermitted db next (record x { setting = setting }) o.chan power
-    may = set_permitted db J x o setting power goes has is below is_power
+    may = set_permitted db J x o setting power goes has is free is_power
 
     which : (y : Iface) → Contains (ifaces_of next) y → (IsSettled db next y × LacksIndex ((record x { setting = setting }) ∷ []) y.index) ⊎ Contains ((record x { setting = setting }) ∷ []) y
     which y was = elim (others_settled db J x setting goes has due y was) [

@@ -16,7 +16,8 @@ use Rattle.rule_tables.specs.declared.domain.Domain.{Domain}
 use Rattle.chan_def.specs.declared.definition.ChanDef.{ChanDef}
 use Rattle.rule_intersect.specs.Tuples.{check_ms}
 use Rattle.reg_journal.specs.Applicable.{applies, custom_domains, driver_code_of, driver_domains, find_domain, hints_of, is_self_managed, or_nothing, or_world, shared_domains}
-use Rattle.reg_journal.specs.Facts.{Fact, Journal, rules_are}
+use Rattle.radio_drv.specs.Names.{IsName}
+use Rattle.reg_journal.specs.Facts.{Fact, Journal, made, rules_are}
 use Rattle.reg_journal.specs.Permits.{IsLengthOf}
 use Rattle.reg_journal.specs.Present.{Iface, custom_rules_of}
 use Rattle.reg_journal.proofs.Listed.{Contains-find}
@@ -25,9 +26,10 @@ use Rattle.reg_journal.proofs.Listed.{Contains-find}
 abbrev pub HasShortChecks : Domain → Type 0
 HasShortChecks d = All (λ rule. rule.cac_s < 2 ^ 16) d.rules
 
--- custom rules carry no check time
+-- custom rules carry no check time, and a new interface has a name
 abbrev pub IsPlain : Fact → Type 0
 IsPlain (rules_are r rules) = All (λ rule. rule.cac_s ≡ 0) rules
+IsPlain (made i name r kind) = IsName name
 IsPlain f = Unit {0}
 
 abbrev pub ArePlain : Journal → Type 0

@@ -13,30 +13,32 @@ use Rattle.chan_def.specs.declared.kind.Kind.TheVariants.{Monitor}
 use Rattle.chan_def.specs.declared.kind.TheConstants.{MOST_IFACES}
 use Rattle.chan_flags.specs.Profiles.{Abilities, IsProfile}
 use Rattle.dfs_states.specs.declared.moments.TheConstants.{LAST_MOMENT_MS}
+use Rattle.radio_drv.specs.Names.{IsName}
 use Rattle.reg_journal.specs.Causes.{IsFree, ◌before◌, Where}
 use Rattle.reg_journal.specs.Due.{IsResting, MayFollow}
 use Rattle.reg_journal.specs.Facts.{Fact, Journal, after, moment_is, radio_added, made, typed, started, stopped, check_begun}
 use Rattle.reg_journal.specs.Granted.{IsGranted, IsPermitted, IsStartable}
 use Rattle.reg_journal.specs.Permits.{BarsCheck, IsLengthOf}
 use Rattle.reg_journal.specs.Present.{Check, Iface, Operation, check_of, ifaces_of, ifaces_on, indexed, is_used, last_check_of, made_of, most_made, named, new_iface, now_of, operation_of, profile_of, with_kind}
-use Rattle.reg_journal.specs.Radar.{HasCheck}
+use Rattle.reg_journal.specs.Radar.{HasCheck, KeepsRegion}
 use Rattle.reg_journal.specs.Refusals.{IfaceAddCauses, IsInUse, LacksRadio, MomentCauses, RadioAddCauses}
 use Rattle.reg_journal.specs.Replies.{facts_of_end}
 use Rattle.reg_journal.specs.Settled.{AreSettled, IsCheckPermitted, IsSettled}
 use Rattle.reg_journal.specs.Sweep.{RegionChangedInCheck}
 use Rattle.reg_journal.specs.declared.refusal.Refusal.TheVariants.{Full, MomentTooLarge, NameTaken}
 use Rattle.reg_journal.proofs.Ending.{ends_one, goes_released}
+use Rattle.reg_journal.proofs.Fitting.{carried_over, fits_over, permitted_of_granted}
 use Rattle.reg_journal.proofs.Homes.{index-with_kind}
 use Rattle.reg_journal.proofs.Judged.{check_settled, idle_settled, operation_settled, settled_stays}
 use Rattle.reg_journal.proofs.Keeping.{Goes, SparesRadios, leaves-added, leaves-each}
-use Rattle.reg_journal.proofs.Lasting.{permitted_stays, quiet_stays}
+use Rattle.reg_journal.proofs.Lasting.{permitted_stays, quiet_stays, region_kept_by_none}
 use Rattle.reg_journal.proofs.LastCheck.{check_parts}
 use Rattle.reg_journal.proofs.Listed.{Contains-map, indexed_listed}
 use Rattle.reg_journal.proofs.Operations.{BeginsCheck, no_check_next, no_operation_next}
 use Rattle.reg_journal.proofs.Permitting.{check_of_free, free-first, free-next, never_where}
 use Rattle.reg_journal.proofs.Radios.{radio_listed, radio_used}
 use Rattle.reg_journal.proofs.Ranges.{IsPlain, length_fits}
-use Rattle.reg_journal.proofs.Splits.{check_newest, not_split, split_cases}
+use Rattle.reg_journal.proofs.Splits.{check_newest, split_cases}
 use Rattle.reg_journal.proofs.Starting.{tells_kind}
 use Rattle.reg_journal.proofs.Swept.{permitted_power_fits}
 
@@ -95,8 +97,8 @@ goes_added db J r profile goes small is free = goes_on db J (radio_added r profi
 
 -- ---- interfaces
 
-pub goes_made : (db : List Domain) (J : Journal) (r : ℕ) (name : List ℕ) (kind : Kind) → Goes db J → IsFree (IfaceAddCauses J r name) → Goes db (made (made_of J + 1) name r kind ∷ J)
-goes_made db J r name kind goes free = goes_on db J (made (made_of J + 1) name r kind) goes due tt settled
+pub goes_made : (db : List Domain) (J : Journal) (r : ℕ) (name : List ℕ) (kind : Kind) → Goes db J → IsName name → IsFree (IfaceAddCauses J r name) → Goes db (made (made_of J + 1) name r kind ∷ J)
+goes_made db J r name kind goes its_name free = goes_on db J (made (made_of J + 1) name r kind) goes due its_name settled
   where
     taken : IsFree (Where (IsSome (named J name)) (NameTaken name) before Where ((MOST_IFACES ≤ length (ifaces_on J r)) ⊎ (most_made ≤ made_of J)) Full)
     taken = free-next (LacksRadio J r) _ free
@@ -111,6 +113,7 @@ goes_made db J r name kind goes free = goes_on db J (made (made_of J + 1) name r
       is_none (named J name) (never_where _ _ (free-first (Where (IsSome (named J name)) (NameTaken name)) _ taken)),
       is_there (profile_of J r) (never_where _ _ (free-first (LacksRadio J r) _ free)),
       elim (cases_lt (length (ifaces_on J r)) MOST_IFACES) [ inl less ↦ less | inr full ↦ absurd (room (inl full)) ],
+      its_name,
     )
 
     new : Iface
@@ -160,6 +163,9 @@ goes_started db J x kind c power goes has may is = goes_on db J (started x.index
       | inr other ↦ absurd (may.free (inr (ap is_some some, other)))
     ]
 
+    permitted : IsPermitted db J x c power
+    permitted = permitted_of_granted db J x c power is
+
     due : MayFollow db J (started x.index c power)
     due = (
       (
@@ -167,7 +173,7 @@ goes_started db J x kind c power goes has may is = goes_on db J (started x.index
         subst (λ o. IsSomeAnd o (λ y. (operation_of J x.index ≡ None) ⊎ (y.kind ≡ Monitor))) (sym (indexed_listed db J x goes.due has)) (replaces (operation_of J x.index) refl),
       ),
       is.valid,
-      permitted_power_fits db J x c power goes.due is.permitted,
+      permitted_power_fits db J x c power goes.due permitted,
     )
 
     settled : AreSettled db (started x.index c power ∷ J)
@@ -177,7 +183,7 @@ goes_started db J x kind c power goes has may is = goes_on db J (started x.index
           let now : operation_of (started x.index c power ∷ J) y.index ≡ Some (record { chan = c; power = power }) = rw (eq-eqb y.index x.index same) in
           operation_settled db (started x.index c power ∷ J) y (record { chan = c; power = power }) now
           (permitted_stays db (started x.index c power) J y c power (due, goes.due) (leaves-each db (started x.index c power) J y.radio tt)
-          (record { there = there; power = power; on_channel = now }) (subst (λ z. IsPermitted db J z c power) is_x is.permitted))
+          (record { there = there; power = power; on_channel = now }) (subst (λ z. IsPermitted db J z c power) is_x permitted))
       | inr other ↦ stays db J (started x.index c power) y goes due tt there (rw (ne_eqb y.index x.index other)) (λ begins. let at = begins.2 in cc) there
     ]
 
@@ -200,19 +206,21 @@ goes_check db J x c length is_db goes has sends unused valid free is = goes_on d
     next = check_begun x.index c length ∷ J
 
     unmoved : RegionChangedInCheck db next x → ⊥
-    unmoved changed = elim (split_cases (check_begun x.index c length) J changed.newer changed.older (check_begun x.index changed.chan changed.length) changed.begun) [
-      | inl (none, _, _) ↦ not_split changed.later changed.between changed.fact (sym none ∙ changed.at)
-      | inr (rest, newer, _) ↦ changed.last (subst (λ facts. HasCheck facts x.index) (sym newer) (check_newest rest x.index c length))
+    unmoved moved = elim (split_cases (check_begun x.index c length) J moved.newer moved.older (check_begun x.index moved.chan moved.length) moved.begun) [
+      | inl (none, _, _) ↦
+          let base : Journal = check_begun x.index moved.chan moved.length ∷ moved.older in
+          moved.changed (subst (λ facts. KeepsRegion db facts base x.radio) (sym none) (region_kept_by_none db base x.radio))
+      | inr (rest, newer, _) ↦ moved.last (subst (λ facts. HasCheck facts x.index) (sym newer) (check_newest rest x.index c length))
     ]
 
     permitted : IsCheckPermitted db next x (record { chan = c; begin = now_of J; length = length })
     permitted =
-        let parts = check_of_free db J x c free in
+        let may = check_of_free db J x c free in
+        let leaves = leaves-each db (check_begun x.index c length) J x.radio tt in
         record {
-          has_width = parts.0;
-          none_bars = parts.1;
-          radar_width = parts.2;
-          quiet = λ sends s covered bound. quiet_stays db (check_begun x.index c length) J x.radio s (due, goes.due) (leaves-each db (check_begun x.index c length) J x.radio tt) (parts.3 sends s covered bound);
+          carried = carried_over db J next x c refl refl may.carried;
+          fits = fits_over db J next x c 0 refl refl may.fits;
+          quiet = λ sends s covered bound. quiet_stays db (check_begun x.index c length) J x.radio s (due, goes.due) leaves (may.quiet sends s covered bound);
           same_region = unmoved;
         }
 

@@ -112,7 +112,7 @@ applies_sound db J r is customs = whole (shared_domains db J r ++ custom_domains
 -- ---- too many rows
 
 -- whether the list has too many rows
-told_many : (ds : List Domain) → IsSound ds → Told ((rows : ℕ) × HasTooManyRows ds rows)
+pub told_many : (ds : List Domain) → IsSound ds → Told ((rows : ℕ) × HasTooManyRows ds rows)
 told_many [] sound = inr (λ (rows, (after, many)). let some = many.some in let within = many.within in omega (arith, some, within))
 told_many (d ∷ ds) (inl each) = elim (table_or_too_many (d ∷ ds) (omega arith)
     (All-from_members (λ (e : Domain). All IsValidRule e.rules) (d ∷ ds) (λ e has. (each e has).each))
@@ -126,39 +126,37 @@ told_many (d ∷ ds) (inr nothing) = inr (λ (rows, (after, many)).
     (IsTableOf-first (custom_domain []) own.0 (All-nil IsValidRule) (omega arith) own.1)
     (subst (λ l. IsTooMany l after rows) nothing many))
 
+-- the first list that has too many, or none has
+pub first_too_long : (lists : List (List Domain)) → ((ds : List Domain) → Contains lists ds → IsSound ds)
+    → ((k : ℕ) × IsFirst (IsTooLongAt lists) k) ⊎ ((k : ℕ) → IsTooLongAt lists k → ⊥)
+first_too_long [] sound = inr (λ k (l, at, many). none-some l at)
+first_too_long (ds ∷ lists) sound = elim (told_many ds (sound ds (Contains-head ds lists))) [
+  | inl many ↦ inl (0, record { here = (ds, refl, many); none_before = λ j less is. omega (arith, less) })
+  | inr few ↦ elim (first_too_long lists (λ l has. sound l (Contains-later ds lists l has))) [
+    | inl (k, first) ↦ inl (suc k, record { here = first.here; none_before = λ j less is. before few k first j less is })
+    | inr none ↦ inr (λ k is. nowhere few none k is)
+  ]
+]
+  where
+    here_few : (((rows : ℕ) × HasTooManyRows ds rows) → ⊥) → IsTooLongAt (ds ∷ lists) 0 → ⊥
+    here_few few (l, at, many) = few (subst (λ x. (rows : ℕ) × HasTooManyRows x rows) (sym (same_Some ds l at)) many)
+
+    before : (((rows : ℕ) × HasTooManyRows ds rows) → ⊥) → (k : ℕ) → IsFirst (IsTooLongAt lists) k → (j : ℕ) → j < suc k → IsTooLongAt (ds ∷ lists) j → ⊥
+    before few k first zero less is = here_few few is
+    before few k first (suc j) less is = first.none_before j (omega (arith, less)) is
+
+    nowhere : (((rows : ℕ) × HasTooManyRows ds rows) → ⊥) → ((k : ℕ) → IsTooLongAt lists k → ⊥) → (k : ℕ) → IsTooLongAt (ds ∷ lists) k → ⊥
+    nowhere few none zero is = here_few few is
+    nowhere few none (suc k) is = none k is
+
 -- whether some list of these has too many
 pub some_rows_or_none : (lists : List (List Domain)) → ((ds : List Domain) → Contains lists ds → IsSound ds) → ((e : Refusal) × RowCauses lists e) ⊎ ((e : Refusal) → RowCauses lists e → ⊥)
-some_rows_or_none lists sound = elim (first_of lists sound) [
+some_rows_or_none lists sound = elim (first_too_long lists sound) [
   | inl (k, first) ↦
       let here = first.here in
       inl (TooManyRows here.2.0, (k, first, here.0, here.1, here.2.0, here.2.1, refl))
   | inr none ↦ inr (λ e cause. none cause.0 cause.1.here)
 ]
-  where
-    later : (ds : List Domain) (lists : List (List Domain)) (k : ℕ) → IsTooLongAt lists k → IsTooLongAt (ds ∷ lists) (suc k)
-    later ds lists k (l, at, many) = (l, at, many)
-
-    first_of : (lists : List (List Domain)) → ((ds : List Domain) → Contains lists ds → IsSound ds)
-        → ((k : ℕ) × IsFirst (IsTooLongAt lists) k) ⊎ ((k : ℕ) → IsTooLongAt lists k → ⊥)
-    first_of [] sound = inr (λ k (l, at, many). none-some l at)
-    first_of (ds ∷ lists) sound = elim (told_many ds (sound ds (Contains-head ds lists))) [
-      | inl many ↦ inl (0, record { here = (ds, refl, many); none_before = λ j less is. omega (arith, less) })
-      | inr few ↦ elim (first_of lists (λ l has. sound l (Contains-later ds lists l has))) [
-        | inl (k, first) ↦ inl (suc k, record { here = first.here; none_before = λ j less is. before few k first j less is })
-        | inr none ↦ inr (λ k is. nowhere few none k is)
-      ]
-    ]
-      where
-        here_few : (((rows : ℕ) × HasTooManyRows ds rows) → ⊥) → IsTooLongAt (ds ∷ lists) 0 → ⊥
-        here_few few (l, at, many) = few (subst (λ x. (rows : ℕ) × HasTooManyRows x rows) (sym (same_Some ds l at)) many)
-
-        before : (((rows : ℕ) × HasTooManyRows ds rows) → ⊥) → (k : ℕ) → IsFirst (IsTooLongAt lists) k → (j : ℕ) → j < suc k → IsTooLongAt (ds ∷ lists) j → ⊥
-        before few k first zero less is = here_few few is
-        before few k first (suc j) less is = first.none_before j (omega (arith, less)) is
-
-        nowhere : (((rows : ℕ) × HasTooManyRows ds rows) → ⊥) → ((k : ℕ) → IsTooLongAt lists k → ⊥) → (k : ℕ) → IsTooLongAt (ds ∷ lists) k → ⊥
-        nowhere few none zero is = here_few few is
-        nowhere few none (suc k) is = none k is
 
 -- ---- rows
 

@@ -1,5 +1,5 @@
 -- Requests that change rules, radar or the radios' place, and sweep.
-use Rattle.std.proofs.Common.{◌≡◌, ℕ, ◌<◌, Bool, true, false, cond, List, [], ◌∷◌, length, All, Contains, Option, Some, None, IfSome, IsSome, arith, refl, sym, subst, inl, inr, ne_eqb}
+use Rattle.std.proofs.Common.{◌≡◌, ℕ, ◌<◌, Bool, true, false, cond, List, [], ◌∷◌, length, All, Contains, Option, Some, None, IfSome, IsSome, arith, refl, sym, inl, inr, ne_eqb}
 use Rattle.std.proofs.lemmas.Bool.{cases_lt}
 use Rattle.std.proofs.lemmas.List.Elements.{All-weaker}
 use Rattle.freq_range.specs.First.{IsFirst}
@@ -16,12 +16,12 @@ use Rattle.chan_def.specs.declared.definition.ChanDef.{ChanDef}
 use Rattle.chan_flags.proofs.Existing.{told_not}
 use Rattle.reg_hints.specs.Table.{Hinted, Own, Treated}
 use Rattle.reg_hints.specs.declared.hint.Hint.TheVariants.{Driver}
-use Rattle.reg_journal.specs.Applicable.{applies, find_domain, is_self_managed}
+use Rattle.reg_journal.specs.Applicable.{AddsFifthCode, applies, code_of_hint, find_domain, is_self_managed}
 use Rattle.reg_journal.specs.Causes.{IsFree, ◌before◌, Where}
-use Rattle.reg_journal.specs.Due.{FitsItsRadio, IsHintDue, MayFollow, code_of_hint}
+use Rattle.reg_journal.specs.Due.{FitsItsRadio, IsHintDue, MayFollow}
 use Rattle.reg_journal.specs.Facts.{Fact, Journal, after, rules_are, hinted, indoor_is, radar_met}
 use Rattle.reg_journal.specs.Present.{Iface, ifaces_of, ifaces_on, profile_of}
-use Rattle.reg_journal.specs.Refusals.{AddsFifthCode, HintCauses, InvalidChannel, LacksRadio, RadarCauses, RowCauses, RulesCauses}
+use Rattle.reg_journal.specs.Refusals.{HintCauses, InvalidChannel, LacksRadio, RadarCauses, RowCauses, RulesCauses}
 use Rattle.reg_journal.specs.Replies.{driver_hint}
 use Rattle.reg_journal.specs.Settled.{IsSettled}
 use Rattle.reg_journal.specs.Sweep.{AreSwept}
@@ -56,7 +56,7 @@ all_valid rules none = elim (first_or_none (λ rule. IsValidRule rule → ⊥) (
 
 -- ---- facts that leave the other radios
 
-leaves-rules : (db : List Domain) (J : Journal) (q r : ℕ) (rules : List Rule) → (r ≡ q → ⊥) → LeavesRadio db (rules_are q rules) J r
+pub leaves-rules : (db : List Domain) (J : Journal) (q r : ℕ) (rules : List Rule) → (r ≡ q → ⊥) → LeavesRadio db (rules_are q rules) J r
 leaves-rules db J q r rules other = record { domains = rw (ne_eqb r q other); profile = refl; region = refl; indoor = refl; unmet = λ chan met. cc }
 
 leaves-radar : (db : List Domain) (J : Journal) (q r : ℕ) (c : ChanDef) → (r ≡ q → ⊥) → LeavesRadio db (radar_met q c) J r
@@ -98,35 +98,32 @@ goes_rules db J r rules facts goes askable free swept =
     some [] not = absurd (not refl)
     some (rule ∷ rules) not = omega arith
 
+    plain : IsPlain (rules_are r rules)
+    plain = All-weaker (λ rule. (rule.cac_s ≡ 0) × (rule.wmm ≡ None)) (λ rule. rule.cac_s ≡ 0) (λ rule both. both.0) rules askable
+
     due : MayFollow db J (rules_are r rules)
     due = (
       is_there (profile_of J r) (never_where _ _ (free-first (LacksRadio J r) _ free)),
       some rules (never_where _ _ (free-first (Where (rules ≡ []) NoRules) _ none)),
       elim (cases_lt 32 (length rules)) [ inl more ↦ absurd (never_where _ _ (free-first (Where (32 < length rules) (TooManyRules (length rules))) _ many) more) | inr few ↦ few ],
       all_valid rules (λ k first. bad (BadRule k) (k, first, refl)),
+      plain,
     )
-
-    plain : IsPlain (rules_are r rules)
-    plain = All-weaker (λ rule. (rule.cac_s ≡ 0) × (rule.wmm ≡ None)) (λ rule. rule.cac_s ≡ 0) (λ rule both. both.0) rules askable
 
 -- ---- hints
 
-hint_due : (db : List Domain) (J : Journal) (a : Alpha2) (hint : Hinted) → code_of_hint hint ≡ a → IsFree (HintCauses db J a hint) → IsHintDue db J hint
-hint_due db J a (Treated hint) same free = (
-  subst (λ code. IsSome (find_domain db code)) (sym same) (is_there (find_domain db a) (never_where _ _ (free-first (Where (find_domain db a ≡ None) (NoCountry a)) _ free))),
-  never_where _ _ (free-first (Where (AddsFifthCode J (Treated hint)) TooManyDomains) _ (free-next (Where (find_domain db a ≡ None) (NoCountry a)) _ free)),
-)
-hint_due db J a (Own r code) same free =
-    subst (λ code. IsSome (find_domain db code)) (sym same) (is_there (find_domain db a) (never_where _ _ (free-first (Where (find_domain db a ≡ None) (NoCountry a)) _ free)))
+hint_due : (db : List Domain) (J : Journal) (hint : Hinted) → IsFree (HintCauses db J hint) → IsHintDue db J hint
+hint_due db J hint free =
+    let known = Where (find_domain db (code_of_hint hint) ≡ None) (NoCountry (code_of_hint hint)) in (
+      is_there (find_domain db (code_of_hint hint)) (never_where _ _ (free-first known _ free)),
+      never_where _ _ (free-first (Where (AddsFifthCode J hint) TooManyDomains) _ (free-next known _ free)),
+    )
 
-pub goes_hinted : (db : List Domain) (J : Journal) (a : Alpha2) (hint : Hinted) (facts : List Fact) → Goes db J → code_of_hint hint ≡ a → FitsItsRadio J hint → IsFree (HintCauses db J a hint)
+pub goes_hinted : (db : List Domain) (J : Journal) (hint : Hinted) (facts : List Fact) → Goes db J → FitsItsRadio J hint → IsFree (HintCauses db J hint)
     → AreSwept db (hinted hint ∷ J) (ifaces_of J) facts → Goes db (after facts (hinted hint ∷ J))
-goes_hinted db J a hint facts goes same fits free swept = goes_swept_all db J (hinted hint) facts goes (hint_due db J a hint same free, fits) tt swept
+goes_hinted db J hint facts goes fits free swept = goes_swept_all db J (hinted hint) facts goes (hint_due db J hint free, fits) tt swept
 
--- a driver's hint names its code, and its radio is there
-pub driver_code : (J : Journal) (r : ℕ) (a : Alpha2) → code_of_hint (driver_hint J r a) ≡ a
-driver_code J r a = elim (is_self_managed J r) as (λ b. code_of_hint (cond b (Own r a) (Treated (Driver r a))) ≡ a) [ true ↦ refl | false ↦ refl ]
-
+-- a driver's hint is taken as its radio's profile says
 pub driver_fits : (J : Journal) (r : ℕ) (a : Alpha2) → IsSome (profile_of J r) → FitsItsRadio J (driver_hint J r a)
 driver_fits J r a there = by (is_self_managed J r) refl
   where

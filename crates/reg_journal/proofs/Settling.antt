@@ -9,16 +9,15 @@ use Rattle.reg_journal.specs.Permits.{EndsCheck}
 use Rattle.reg_journal.specs.Present.{Iface, Operation, Check, check_of, operation_of}
 use Rattle.reg_journal.specs.Settled.{IsCheckPermitted, IsSettled}
 use Rattle.reg_journal.specs.Sweep.{AreSwept, Becomes, CheckBecomes, MustDrop, OperationBecomes}
-use Rattle.reg_journal.proofs.Granting.{free-at_lowest, free-before, free-lacks_radar_width, free-lacks_width, free-met_radar, free-rules_forbid, free_of_permitted, power_of_permitted}
+use Rattle.reg_journal.proofs.Fitting.{none_bars_of_fits}
+use Rattle.reg_journal.proofs.Granting.{free-before, free-rules_forbid, free_of_permitted, free_of_radar, free_of_radio, power_of_permitted}
 
 -- nothing ends a running check that may go on
 pub free_of_check : (db : List Domain) (J : Journal) (x : Iface) (k : Check) → IsCheckPermitted db J x k → IsFree (EndsCheck db J x k.chan)
 free_of_check db J x k may =
-    free-before _ _ (free-at_lowest _ k.chan _ may.none_bars.0)
-    (free-before _ _ (free-lacks_width J x k.chan may.has_width)
-    (free-before _ _ (free-rules_forbid db J x k.chan may.none_bars.1)
-    (free-before _ _ (free-lacks_radar_width db J x k.chan may.radar_width)
-    (free-met_radar db J x k.chan may.quiet))))
+    free-before _ _ (free_of_radio db J x k.chan may.carried)
+    (free-before _ _ (free-rules_forbid db J x k.chan (none_bars_of_fits db J x k.chan 0 may.carried may.fits).1)
+    (free_of_radar db J x k.chan may.carried.radar_width may.quiet))
 
 -- so it needn't go
 pub not_dropped : (db : List Domain) (J : Journal) (x : Iface) (k : Check) → IsCheckPermitted db J x k → MustDrop db J x k → ⊥

@@ -1,7 +1,6 @@
 -- There is a reply to each request, over each journal each fact of which came where it might.
 use Rattle.std.proofs.Common.{◌≡◌, ℕ, ◌+◌, Bool, List, [], ◌∷◌, refl}
 use Rattle.rule_tables.specs.Databases.{IsDb}
-use Rattle.rule_tables.specs.declared.code.Alpha2.{Alpha2}
 use Rattle.rule_tables.specs.declared.domain.Domain.{Domain}
 use Rattle.chan_flags.specs.declared.record.Chan.{Chan}
 use Rattle.dfs_states.specs.declared.dfs.Dfs.{Dfs}
@@ -30,9 +29,9 @@ use Rattle.reg_journal.proofs.Deciding.{cause-before, length_for, power_for}
 use Rattle.reg_journal.proofs.Permitting.{free-first, free-next}
 use Rattle.reg_journal.proofs.Showing.{iface_report, radio_report, some_sections, some_shown_channels}
 
-some_hint : (db : List Domain) (J : Journal) (a : Alpha2) (hint : Hinted) → IsDb db → EachMayFollow db J → SomeReply (Hints db J a hint)
-some_hint db J a hint is due =
-    answered (HintCauses db J a hint) (Sweeps db J (HintTaken (answer_of J hint)) (hinted hint) (ifaces_of J)) (cause-hint db J a hint is due)
+some_hint : (db : List Domain) (J : Journal) (hint : Hinted) → IsDb db → EachMayFollow db J → SomeReply (Hints db J hint)
+some_hint db J hint is due =
+    answered (HintCauses db J hint) (Sweeps db J (HintTaken (answer_of J hint)) (hinted hint) (ifaces_of J)) (cause-hint db J hint is due)
     (λ free. sweeps db J (HintTaken (answer_of J hint)) (hinted hint) (ifaces_of J))
 
 -- the interface of the name is there where the request is free of its causes
@@ -47,14 +46,14 @@ some_reply db J (RadioDel r) failed is due = answered (LacksRadio J r) (GivesEff
 some_reply db J (RadioRules r rules) failed is due =
     answered (RulesCauses db J r rules) (Sweeps db J Ok (rules_are r rules) (ifaces_on J r)) (cause-rules db J r rules is) (λ free. sweeps db J Ok (rules_are r rules) (ifaces_on J r))
 some_reply db J (HeardElement r body) failed is due =
-    answered (LacksRadio J r before ElementCauses body) (λ reply facts. (e : Element) × IsElement body e × Hints db J e.alpha2 (element_hint J r e.alpha2) reply facts)
+    answered (LacksRadio J r before ElementCauses body) (λ reply facts. (e : Element) × IsElement body e × Hints db J (element_hint J r e.alpha2) reply facts)
     (cause-before (LacksRadio J r) (ElementCauses body) (cause-radio J r) (λ there. cause-element body))
     (λ free.
     let e = some_element body (free-next (LacksRadio J r) (ElementCauses body) free) in
-    let reply = some_hint db J (e.0).alpha2 (element_hint J r (e.0).alpha2) is due in
+    let reply = some_hint db J (element_hint J r (e.0).alpha2) is due in
     (reply.0, reply.1, (e.0, e.1, reply.2)))
-some_reply db J (DriverHint r a) failed is due = answered (LacksRadio J r) (Hints db J a (driver_hint J r a)) (cause-radio J r) (λ free. some_hint db J a (driver_hint J r a) is due)
-some_reply db J (UserHint a) failed is due = some_hint db J a (Treated (User a)) is due
+some_reply db J (DriverHint r a) failed is due = answered (LacksRadio J r) (Hints db J (driver_hint J r a)) (cause-radio J r) (λ free. some_hint db J (driver_hint J r a) is due)
+some_reply db J (UserHint a) failed is due = some_hint db J (Treated (User a)) is due
 some_reply db J (Radar r c) failed is due = answered (RadarCauses J r c) (Sweeps db J Ok (radar_met r c) (ifaces_on J r)) (cause-radar J r c) (λ free. sweeps db J Ok (radar_met r c) (ifaces_on J r))
 some_reply db J (Indoor on) failed is due = sweeps db J Ok (indoor_is on) (ifaces_of J)
 some_reply db J (IfaceAdd r name kind) failed is due =

@@ -153,10 +153,10 @@ each_awaits_still db J x f (y ∷ ys) facts due on apart there (own, rest, await
 -- the power of what is permitted fits its field
 pub permitted_power_fits : (db : List Domain) (J : Journal) (x : Iface) (c : ChanDef) (power : ℕ) → EachMayFollow db J → IsPermitted db J x c power → power < 2 ^ 16
 permitted_power_fits db J x c power due may =
-    let granting = may.fits.1 in
-    let radio = granting.is_limit.radio in
-    let below = power_within x.setting granting.limit granting.within in
-    let same = granting.power_is in
+    let given = may.given in
+    let radio = given.is_limit.radio in
+    let below = power_within x.setting given.limit given.within in
+    let same = given.power_is in
     let small = power_fits db J x.radio due in
     omega (arith, radio, below, same, small)
 

@@ -2,7 +2,6 @@
 use Rattle.std.proofs.Common.{◌≡◌, ◌≢◌, ℕ, suc, ◌+◌, ◌≤◌, ◌⊎◌, Bool, List, [], ◌∷◌, ◌++◌, length, Option, Some, None, IfSome, IsSomeAnd, MatchOption, arith, refl, sym, ap, subst, inl, inr}
 use Rattle.std.specs.List.{cons_option, filter_map, flat_map}
 use Rattle.std.proofs.lemmas.List.{length-append}
-use Rattle.rule_tables.specs.declared.code.Alpha2.{Alpha2}
 use Rattle.rule_tables.specs.declared.domain.Domain.{Domain}
 use Rattle.chan_flags.specs.declared.record.Chan.{Chan}
 use Rattle.chan_flags.specs.declared.verdict.PowerSetting.{PowerSetting}
@@ -169,9 +168,9 @@ power_few db J setting x reply facts sets = by (operation_of J x.index) sets
 shows_few : (shown : Reply → Type 0) (reply : Reply) (facts : List Fact) → Shows shown reply facts → (shown reply → HasFewEffects reply) → HasFewEffects reply
 shows_few shown reply facts (is, none) rest = rest is
 
-hints_few : (db : List Domain) (J : Journal) (a : Alpha2) (hint : Hinted) (reply : Reply) (facts : List Fact) → EachMayFollow db J → Hints db J a hint reply facts → HasFewEffects reply
-hints_few db J a hint reply facts due hints =
-    decided_few (HintCauses db J a hint) (Sweeps db J (HintTaken (answer_of J hint)) (hinted hint) (ifaces_of J)) reply facts hints
+hints_few : (db : List Domain) (J : Journal) (hint : Hinted) (reply : Reply) (facts : List Fact) → EachMayFollow db J → Hints db J hint reply facts → HasFewEffects reply
+hints_few db J hint reply facts due hints =
+    decided_few (HintCauses db J hint) (Sweeps db J (HintTaken (answer_of J hint)) (hinted hint) (ifaces_of J)) reply facts hints
     (sweeps_few db J (HintTaken (answer_of J hint)) (hinted hint) (ifaces_of J) reply facts (few_ifaces db J due))
 
 few_on_radio : (db : List Domain) (J : Journal) (r : ℕ) → EachMayFollow db J → length (ifaces_on J r) ≤ MOST_EFFECTS
@@ -185,10 +184,10 @@ few_effects db J (RadioDel r) failed reply facts due is = decided_few _ (GivesEf
 few_effects db J (RadioRules r rules) failed reply facts due is = decided_few _ (Sweeps db J Ok (rules_are r rules) (ifaces_on J r)) reply facts is
     (sweeps_few db J Ok (rules_are r rules) (ifaces_on J r) reply facts (few_on_radio db J r due))
 few_effects db J (HeardElement r body) failed reply facts due is =
-    decided_few (LacksRadio J r before ElementCauses body) (λ reply facts. (e : Element) × IsElement body e × Hints db J e.alpha2 (element_hint J r e.alpha2) reply facts) reply facts is
-    (λ heard. hints_few db J (heard.0).alpha2 (element_hint J r (heard.0).alpha2) reply facts due heard.2)
-few_effects db J (DriverHint r a) failed reply facts due is = decided_few (LacksRadio J r) (Hints db J a (driver_hint J r a)) reply facts is (hints_few db J a (driver_hint J r a) reply facts due)
-few_effects db J (UserHint a) failed reply facts due is = hints_few db J a (Treated (User a)) reply facts due is
+    decided_few (LacksRadio J r before ElementCauses body) (λ reply facts. (e : Element) × IsElement body e × Hints db J (element_hint J r e.alpha2) reply facts) reply facts is
+    (λ heard. hints_few db J (element_hint J r (heard.0).alpha2) reply facts due heard.2)
+few_effects db J (DriverHint r a) failed reply facts due is = decided_few (LacksRadio J r) (Hints db J (driver_hint J r a)) reply facts is (hints_few db J (driver_hint J r a) reply facts due)
+few_effects db J (UserHint a) failed reply facts due is = hints_few db J (Treated (User a)) reply facts due is
 few_effects db J (Radar r c) failed reply facts due is = decided_few _ (Sweeps db J Ok (radar_met r c) (ifaces_on J r)) reply facts is
     (sweeps_few db J Ok (radar_met r c) (ifaces_on J r) reply facts (few_on_radio db J r due))
 few_effects db J (Indoor on) failed reply facts due is = sweeps_few db J Ok (indoor_is on) (ifaces_of J) reply facts (few_ifaces db J due) is

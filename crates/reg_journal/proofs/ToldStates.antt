@@ -133,7 +133,7 @@ kept_not_moved : (db : List Domain) (facts base : Journal) (r : ℕ) → KeepsRe
 kept_not_moved db facts base r keeps (newer, [], at, is) = is
 kept_not_moved db facts base r keeps (newer, f ∷ between, at, moves) = moves (keeps newer f between at)
 
-told_region_kept : (db : List Domain) (facts base : Journal) (r : ℕ) → Told (KeepsRegion db facts base r)
+pub told_region_kept : (db : List Domain) (facts base : Journal) (r : ℕ) → Told (KeepsRegion db facts base r)
 told_region_kept db facts base r = elim (told_split (λ newer older. BeginsWithMove db base r older) (λ newer older. told_begins_with_move db base r older) facts) [
   | inl moved ↦ inr (λ keeps. kept_not_moved db facts base r keeps moved)
   | inr none ↦ inl (λ newer f between at. elim (tells_region (region_of db (f ∷ between ++ base) r) (region_of db (between ++ base) r)) [

@@ -2,7 +2,6 @@
 use Rattle.std.proofs.Common.{◌≡◌, ◌≢◌, ℕ, ◌+◌, ◌==◌, ◌⊎◌, Bool, true, false, List, [], ◌∷◌, ◌++◌, Option, Some, None, IsSomeAnd, MatchOption, refl, sym, ap, subst, ◌∙◌, inl, inr, eq-eqb, ne_eqb}
 use Rattle.std.specs.List.{flat_map}
 use Rattle.std.specs.Option.{option_map_or}
-use Rattle.rule_tables.specs.declared.code.Alpha2.{Alpha2}
 use Rattle.rule_tables.specs.declared.domain.Domain.{Domain}
 use Rattle.chan_def.specs.declared.definition.ChanDef.{ChanDef}
 use Rattle.chan_flags.specs.declared.record.Chan.{Chan}
@@ -96,9 +95,9 @@ power_untold db J setting x reply facts sets = by (operation_of J x.index) sets
     by (Some o) (power, is, inl (same, (answer, all))) = subst EachTellsNothing (sym all) (tt, tt)
     by (Some o) (power, is, inr (other, (answer, all))) = subst EachTellsNothing (sym all) (tt, (tt, tt))
 
-hints_untold : (db : List Domain) (J : Journal) (a : Alpha2) (hint : Hinted) (reply : Reply) (facts : List Fact) → Hints db J a hint reply facts → EachTellsNothing facts
-hints_untold db J a hint reply facts hints =
-    decided_untold (HintCauses db J a hint) (Sweeps db J (HintTaken (answer_of J hint)) (hinted hint) (ifaces_of J)) reply facts hints
+hints_untold : (db : List Domain) (J : Journal) (hint : Hinted) (reply : Reply) (facts : List Fact) → Hints db J hint reply facts → EachTellsNothing facts
+hints_untold db J hint reply facts hints =
+    decided_untold (HintCauses db J hint) (Sweeps db J (HintTaken (answer_of J hint)) (hinted hint) (ifaces_of J)) reply facts hints
     (sweeps_untold db J (HintTaken (answer_of J hint)) (hinted hint) (ifaces_of J) reply facts tt)
 
 -- ---- requests
@@ -113,10 +112,10 @@ untold db J (RadioDel r) failed reply facts is none = decided_untold _ (GivesEff
 untold db J (RadioRules r rules) failed reply facts is none = decided_untold _ (Sweeps db J Ok (rules_are r rules) (ifaces_on J r)) reply facts is
     (sweeps_untold db J Ok (rules_are r rules) (ifaces_on J r) reply facts tt)
 untold db J (HeardElement r body) failed reply facts is none =
-    decided_untold (LacksRadio J r before ElementCauses body) (λ reply facts. (e : Element) × IsElement body e × Hints db J e.alpha2 (element_hint J r e.alpha2) reply facts) reply facts is
-    (λ heard. hints_untold db J (heard.0).alpha2 (element_hint J r (heard.0).alpha2) reply facts heard.2)
-untold db J (DriverHint r a) failed reply facts is none = decided_untold (LacksRadio J r) (Hints db J a (driver_hint J r a)) reply facts is (hints_untold db J a (driver_hint J r a) reply facts)
-untold db J (UserHint a) failed reply facts is none = hints_untold db J a (Treated (User a)) reply facts is
+    decided_untold (LacksRadio J r before ElementCauses body) (λ reply facts. (e : Element) × IsElement body e × Hints db J (element_hint J r e.alpha2) reply facts) reply facts is
+    (λ heard. hints_untold db J (element_hint J r (heard.0).alpha2) reply facts heard.2)
+untold db J (DriverHint r a) failed reply facts is none = decided_untold (LacksRadio J r) (Hints db J (driver_hint J r a)) reply facts is (hints_untold db J (driver_hint J r a) reply facts)
+untold db J (UserHint a) failed reply facts is none = hints_untold db J (Treated (User a)) reply facts is
 untold db J (Radar r c) failed reply facts is none = decided_untold _ (Sweeps db J Ok (radar_met r c) (ifaces_on J r)) reply facts is
     (sweeps_untold db J Ok (radar_met r c) (ifaces_on J r) reply facts tt)
 untold db J (Indoor on) failed reply facts is none = sweeps_untold db J Ok (indoor_is on) (ifaces_of J) reply facts tt is

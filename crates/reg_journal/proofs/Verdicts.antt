@@ -12,21 +12,11 @@ use Rattle.reg_journal.specs.Facts.{Journal}
 use Rattle.reg_journal.specs.Present.{Iface}
 use Rattle.reg_journal.specs.Applicable.{applies}
 use Rattle.reg_journal.specs.Causes.{IsFree}
-use Rattle.reg_journal.specs.Permits.{asked_by, IsPowerOf, IsLengthOf, LacksChannel, LacksWidth, RulesForbid, PassesLimit}
+use Rattle.reg_journal.specs.Permits.{asked_by, IsPowerOf, IsLengthOf, LacksChannel, LacksWidth, RulesForbid, PassesLimit, refusal_of_channel}
 use Rattle.reg_journal.specs.declared.refusal.Refusal.{Refusal}
 use Rattle.reg_journal.specs.declared.refusal.Refusal.TheVariants.{RadioLacks, RadioLacksWidth, NoRule, Width as TooNarrow, NoOfdm, NoIr, NoOutdoor, Power}
-use Rattle.reg_journal.proofs.Granting.{free-at_lowest, free-lacks_width, free-passes_limit, free-rules_forbid, whole_mhz}
-
--- the refusal that a refusal by records is
-abbrev pub refusal_of : ChanRefusal → Refusal
-refusal_of (Lacking s) = RadioLacks s
-refusal_of (Narrower mhz) = RadioLacksWidth mhz
-refusal_of (Ruleless s) = NoRule s
-refusal_of (Tight s) = TooNarrow s
-refusal_of (Ofdm s) = NoOfdm s
-refusal_of (Ir s) = NoIr s
-refusal_of (Outdoor s) = NoOutdoor s
-refusal_of (AboveLimit limit) = Power limit
+use Rattle.reg_journal.proofs.Fitting.{whole_mhz}
+use Rattle.reg_journal.proofs.Granting.{free-at_lowest, free-lacks_width, free-passes_limit, free-rules_forbid}
 
 -- the radio has the channel and its width
 pub record HasRadio (db : List Domain) (J : Journal) (x : Iface) (c : ChanDef) : Type 0 where
@@ -38,10 +28,10 @@ pub record HasRadio (db : List Domain) (J : Journal) (x : Iface) (c : ChanDef) :
 abbrev pub Says : List Domain → Journal → Iface → ChanDef → Verdict → Type 0
 Says db J x c (Refused (Lacking s)) = LacksChannel db J x c (RadioLacks s)
 Says db J x c (Refused (Narrower mhz)) = IsFree (LacksChannel db J x c) × LacksWidth J x c (RadioLacksWidth mhz)
-Says db J x c (Refused (AboveLimit limit)) = HasRadio db J x c × IsFree (RulesForbid db J x c) × PassesLimit db J x c (Power limit)
-Says db J x c (Refused r) = HasRadio db J x c × RulesForbid db J x c (refusal_of r)
+Says db J x c (Refused (AboveLimit limit)) = HasRadio db J x c × IsFree (RulesForbid db J x c) × PassesLimit db J x x.setting c (Power limit)
+Says db J x c (Refused r) = HasRadio db J x c × RulesForbid db J x c (refusal_of_channel r)
 Says db J x c (Fits power length) =
-    HasRadio db J x c × IsFree (RulesForbid db J x c) × IsFree (PassesLimit db J x c) × IsPowerOf db J x c power × IsLengthOf db J x c length
+    HasRadio db J x c × IsFree (RulesForbid db J x c) × IsFree (PassesLimit db J x x.setting c) × IsPowerOf db J x c power × IsLengthOf db J x c length
 
 has_radio : (db : List Domain) (J : Journal) (x : Iface) (c : ChanDef) → HasWidth (asked_by J x c) → BarsNone (Bars (applies db J x.radio) (asked_by J x c) Missing) c → HasRadio db J x c
 has_radio db J x c wide none = record {
@@ -69,7 +59,7 @@ verdict_says db J x c (Fits power length) is =
     let none = is.none_bars in (
       has_radio db J x c is.has_width none.0,
       free-rules_forbid db J x c none.1,
-      free-passes_limit db J x c is.limit is.is_limit is.within,
+      free-passes_limit db J x x.setting c is.limit is.is_limit is.within,
       (is.limit, is.is_limit, is.power_is),
       is.length_is,
     )

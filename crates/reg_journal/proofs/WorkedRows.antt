@@ -1,5 +1,6 @@
--- A check of 60,000 ms stands from 60,000 ms on, and lapses at 62,000 ms; nonoccupancy from 70,000 ms on ends at 1,870,000 ms.
-use Rattle.std.proofs.Common.{◌≡◌, ◌≢◌, ℕ, ◌<◌, ◌≤◌, List, [], ◌∷◌, ◌++◌, None, IsSomeAnd, arith, refl, sym, ap, subst, inl, inr}
+-- A check of 60,000 ms stands from 60,000 ms on, but where radar came beside it, and lapses at 62,000 ms; nonoccupancy from 70,000 ms on
+-- ends at 1,870,000 ms.
+use Rattle.std.proofs.Common.{◌≡◌, ◌≢◌, ℕ, ◌<◌, ◌≤◌, List, [], ◌∷◌, ◌++◌, None, IsSomeAnd, arith, refl, sym, ap, subst, ◌∙◌, inl, inr}
 use Rattle.rule_tables.specs.declared.code.Region.TheVariants.{Etsi}
 use Rattle.rule_tables.specs.declared.domain.Domain.{Domain}
 use Rattle.chan_def.specs.Covered.{IsCovered}
@@ -10,7 +11,7 @@ use Rattle.reg_journal.specs.Applicable.{region_of}
 use Rattle.reg_journal.specs.Facts.{Fact, Journal, moment_is, radio_added, radar_met, made, check_begun, check_dropped}
 use Rattle.reg_journal.specs.Present.{now_of, operation_of}
 use Rattle.reg_journal.specs.Radar.{IsBarred, IsQuiet, NoneStands, Stands, WasUsedAt}
-use Rattle.reg_journal.specs.Rows.{checked_row, radar_row}
+use Rattle.reg_journal.specs.Rows.{checked_row, disturbed_row, radar_row}
 use Rattle.reg_journal.proofs.Splits.{not_split, split_cases}
 
 -- ---- what holds of each front of a journal
@@ -21,6 +22,7 @@ IsCalm last (moment_is moment) = moment ≤ last
 IsCalm last (made i name r kind) = Unit {0}
 IsCalm last (radio_added r profile) = Unit {0}
 IsCalm last (check_begun i c n) = Unit {0}
+IsCalm last (radar_met r c) = Unit {0}
 IsCalm last f = ⊥
 
 abbrev AreCalm : ℕ → Journal → Type 0
@@ -37,6 +39,7 @@ calm_now last (moment_is moment ∷ J) calm = calm.0
 calm_now last (made i name r kind ∷ J) calm = calm_now last J calm.1
 calm_now last (radio_added r profile ∷ J) calm = calm_now last J calm.1
 calm_now last (check_begun i c n ∷ J) calm = calm_now last J calm.1
+calm_now last (radar_met r c ∷ J) calm = calm_now last J calm.1
 calm_now last (f ∷ J) calm = absurd calm.0
 
 calm_idle : (last : ℕ) (J : Journal) (i : ℕ) → AreCalm last J → operation_of J i ≡ None
@@ -45,6 +48,7 @@ calm_idle last (moment_is moment ∷ J) i calm = calm_idle last J i calm.1
 calm_idle last (made j name r kind ∷ J) i calm = calm_idle last J i calm.1
 calm_idle last (radio_added r profile ∷ J) i calm = calm_idle last J i calm.1
 calm_idle last (check_begun j c n ∷ J) i calm = calm_idle last J i calm.1
+calm_idle last (radar_met r c ∷ J) i calm = calm_idle last J i calm.1
 calm_idle last (f ∷ J) i calm = absurd calm.0
 
 calm_unused : (last : ℕ) (J : Journal) (r s moment : ℕ) → AreCalm last J → WasUsedAt J r s moment → ⊥
@@ -164,6 +168,90 @@ none_late db p name c m s late other end stands = elim stands.lasts [
     long_ago = let same = only_end db p name c m s end stands in omega (arith, same, late);
   })
 ]
+
+-- ---- radar beside a running check
+
+-- a moment, or radar of the radio on the channel
+abbrev IsMild : ChanDef → Fact → Type 0
+IsMild d (moment_is moment) = Unit {0}
+IsMild d (radar_met r e) = e ≡ d
+IsMild d f = ⊥
+
+abbrev AreMild : ChanDef → Journal → Type 0
+AreMild d [] = Unit {0}
+AreMild d (f ∷ facts) = IsMild d f × AreMild d facts
+
+mild_at : (d : ChanDef) (newer older : Journal) (f : Fact) → AreMild d (newer ++ f ∷ older) → IsMild d f
+mild_at d [] older f mild = mild.0
+mild_at d (g ∷ newer) older f mild = mild_at d newer older f mild.1
+
+mild_region : (db : List Domain) (d : ChanDef) (f : Fact) (J : Journal) (r : ℕ) → IsMild d f → region_of db (f ∷ J) r ≡ region_of db J r
+mild_region db d (moment_is moment) J r mild = refl
+mild_region db d (radar_met q e) J r mild = refl
+mild_region db d f J r mild = absurd mild
+
+-- no check stands for a subchannel of both channels
+pub voided_by_radar : (db : List Domain) (p : Abilities) (name : List ℕ) (c d : ChanDef) (m s : ℕ) → IsCovered d s → NoneStands db (disturbed_row p name c d m) 0 s
+voided_by_radar db p name c d m s covered end stands =
+    let k = stands.counts in
+    elim (split_cases (moment_is m) _ k.newer k.older (check_begun k.iface k.chan k.length) k.begun) [
+      | inl (_, at, _) ↦ absurd (no_moment k.iface k.chan k.length at)
+      | inr (rest, newer, split) ↦ elim (split_cases (radar_met 0 d) _ rest k.older (check_begun k.iface k.chan k.length) split) [
+        | inl (_, at, _) ↦ absurd (no_check k.iface k.chan k.length at)
+        | inr (later, is, _) ↦ k.no_radar (record {
+          newer = moment_is m ∷ [];
+          chan = d;
+          older = later;
+          met = newer ∙ ap (λ xs. moment_is m ∷ xs) is;
+          covered = covered;
+        })
+      ]
+    ]
+  where
+    no_moment : (i : ℕ) (e : ChanDef) (n : ℕ) → moment_is m ≡ check_begun i e n → ⊥
+    no_moment i e n at = cc
+
+    no_check : (i : ℕ) (e : ChanDef) (n : ℕ) → radar_met 0 d ≡ check_begun i e n → ⊥
+    no_check i e n at = cc
+
+-- for the checked channel's others it does
+pub spared_by_radar : (db : List Domain) (p : Abilities) (name : List ℕ) (c d : ChanDef) (m s : ℕ) → IsCovered c s → (IsCovered d s → ⊥) → 60000 ≤ m → m < 62000
+    → Stands db (disturbed_row p name c d m) 0 s 60000
+spared_by_radar db p name c d m s covered spared late soon = record {
+  counts = record {
+    newer = facts;
+    iface = 1;
+    chan = c;
+    length = 60000;
+    older = base;
+    begun = refl;
+    on_radio = refl;
+    covered = covered;
+    ends = refl;
+    kept = λ newer between at. absurd (mild_at d newer between (check_dropped 1) (subst (AreMild d) at mild));
+    no_radar = λ has. spared (subst (λ e. IsCovered e s) (mild_at d has.newer has.older (radar_met 0 has.chan) (subst (AreMild d) has.met mild)) has.covered);
+    same_region = λ newer f between at.
+        mild_region db d f (between ++ (check_begun 1 c 60000 ∷ base)) 0 (mild_at d newer between f (subst (AreMild d) at mild));
+  };
+  over = late;
+  lasts = inr (λ lapsed.
+      let least = lapsed.is_last.none_above 60000 (inl refl) in
+      let long = lapsed.long_ago in
+      let now = calm_now m lapsed.older (calm_older m lapsed.newer lapsed.older (subst (AreCalm m) lapsed.split calm)) in
+      omega (arith, least, long, now, soon));
+}
+  where
+    base : Journal
+    base = made 1 name 0 Ap ∷ radio_added 0 p ∷ []
+
+    facts : Journal
+    facts = moment_is m ∷ radar_met 0 d ∷ moment_is 30000 ∷ []
+
+    mild : AreMild d facts
+    mild = (tt, (refl, (tt, tt)))
+
+    calm : AreCalm m (disturbed_row p name c d m)
+    calm = (omega arith, (tt, (omega (arith, late), (tt, (tt, (tt, tt))))))
 
 -- ---- nonoccupancy
 

@@ -8,7 +8,7 @@ use Rattle.rule_tables.specs.World.{custom_domain, world, world_domain}
 use Rattle.rule_tables.specs.declared.code.Alpha2.{Alpha2}
 use Rattle.rule_tables.specs.declared.code.Region.{Region}
 use Rattle.rule_tables.specs.declared.domain.Domain.{Domain}
-use Rattle.reg_hints.specs.Table.{Hinted, Treated, Own, State, after_all}
+use Rattle.reg_hints.specs.Table.{Hinted, Treated, Own, State, after_all, hinted_code, IsOneTooMany}
 use Rattle.reg_hints.specs.declared.hint.Hint.TheVariants.{User, Driver, Element}
 use Rattle.reg_journal.specs.Facts.{Journal, hinted}
 use Rattle.reg_journal.specs.Present.{abilities_of, custom_rules_of}
@@ -24,6 +24,16 @@ hinted_of (f ∷ J) = hinted_of J
 -- what they have led to: the last hint, and the codes of the global list
 abbrev pub hints_of : Journal → State
 hints_of J = after_all (hinted_of J)
+
+-- the code that the hint names
+abbrev pub code_of_hint : Hinted → Alpha2
+code_of_hint (Treated hint) = hinted_code hint
+code_of_hint (Own r a) = a
+
+-- The hint would make the global list one of five codes. A driver's hint on a self-managed radio never touches that list.
+abbrev pub AddsFifthCode : Journal → Hinted → Type 0
+AddsFifthCode J (Treated hint) = IsOneTooMany (hints_of J) hint
+AddsFifthCode J (Own r a) = ⊥
 
 -- the code of the last hint of the radio's driver, if there was one
 abbrev pub driver_code_in : List Hinted → ℕ → Option Alpha2

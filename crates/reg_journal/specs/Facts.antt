@@ -1,5 +1,5 @@
 -- What has been accepted. The journal is the list of these facts, the newest first.
-use Rattle.std.specs.Prelude.{ℕ, Bool, List, [], ◌∷◌}
+use Rattle.std.specs.Prelude.{◌≡◌, ℕ, Bool, List, [], ◌∷◌, ◌++◌}
 use Rattle.freq_range.specs.declared.rule.Rule.{Rule}
 use Rattle.chan_def.specs.declared.definition.ChanDef.{ChanDef}
 use Rattle.chan_def.specs.declared.kind.Kind.{Kind}
@@ -29,6 +29,10 @@ pub data Fact : Type 0 where
 -- all that happened, the newest first
 abbrev pub Journal : Type 0
 Journal = List Fact
+
+-- the fact is one of these: the newer ones came after it, and the older ones before
+abbrev pub CameAmong : Journal → Journal → Fact → Journal → Type 0
+CameAmong facts newer fact older = facts ≡ newer ++ fact ∷ older
 
 -- the journal with more facts, the oldest of which stands first
 abbrev pub after : List Fact → Journal → Journal

@@ -18,3 +18,4 @@ pub mod Settled
 pub mod Asking
 pub mod Codes
 pub mod Rows
+pub mod Forms

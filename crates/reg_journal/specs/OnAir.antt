@@ -1,11 +1,11 @@
 -- What a radio's driver has on air.
-use Rattle.std.specs.Prelude.{◌≡◌, ℕ, ◌<◌, ◌==◌, Bool, false, List, [], ◌∷◌, ◌++◌, length, Option, Some, None, if◌then◌else◌}
+use Rattle.std.specs.Prelude.{◌≡◌, ℕ, ◌<◌, ◌==◌, Bool, false, List, [], ◌∷◌, length, Option, Some, None, if◌then◌else◌}
 use Rattle.std.specs.Option.{option_map_or}
 use Rattle.chan_def.specs.declared.definition.ChanDef.{ChanDef}
 use Rattle.radio_drv.specs.Air.{started as put_on_air, stopped as taken_off, powered as given_power}
 use Rattle.radio_drv.specs.declared.on_air.CheckTold.{CheckTold}
 use Rattle.radio_drv.specs.declared.on_air.OnAir.{OnAir}
-use Rattle.reg_journal.specs.Facts.{Journal, started, stopped, powered, check_begun}
+use Rattle.reg_journal.specs.Facts.{Journal, CameAmong, started, stopped, powered, check_begun}
 use Rattle.reg_journal.specs.declared.reply.Answer.TheVariants.{Checking}
 use Rattle.reg_journal.specs.declared.reply.Reply.{Reply}
 use Rattle.reg_journal.specs.declared.reply.Reply.TheVariants.{Plain}
@@ -40,9 +40,9 @@ pub record OperatesSince (J : Journal) (i : ℕ) (older : Journal) : Type 0 wher
   pub newer : Journal
   pub chan : ChanDef
   pub power : ℕ
-  pub start : J ≡ newer ++ started i chan power ∷ older
+  pub start : CameAmong J newer (started i chan power) older
   pub resting : operation_of older i ≡ None
-  pub kept : (front back : Journal) → newer ≡ front ++ stopped i ∷ back → ⊥
+  pub kept : (front back : Journal) → CameAmong newer front (stopped i) back → ⊥
 
 -- the start since which the one interface has operated came before that of the other
 pub record StartedBefore (J : Journal) (i j : ℕ) : Type 0 where

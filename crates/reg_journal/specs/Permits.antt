@@ -1,6 +1,6 @@
 -- What speaks against a channel for an interface: its radio, the rules of the domains that apply, and radar.
 -- Below, x is an interface and c the channel.
-use Rattle.std.specs.Prelude.{◌≡◌, ℕ, ◌/◌, ◌<◌, List, [], ◌∷◌, ◌++◌, length, filter, Option, Some, None, IsTrue, if◌then◌else◌}
+use Rattle.std.specs.Prelude.{◌≡◌, ℕ, ◌/◌, ◌<◌, List, [], ◌∷◌, length, filter, Option, Some, None, IsTrue, if◌then◌else◌}
 use Rattle.std.specs.List.{filter_map, list_any}
 use Rattle.std.specs.Option.{option_map}
 use Rattle.rule_tables.specs.declared.domain.Domain.{Domain}
@@ -10,7 +10,10 @@ use Rattle.chan_def.specs.Same.{is_same_channel}
 use Rattle.chan_def.specs.declared.definition.ChanDef.{ChanDef}
 use Rattle.chan_flags.specs.Verdicts.{asked, Bars, IsBound, IsLimit, IsCheckLength, IsAbove, power_of}
 use Rattle.chan_flags.specs.declared.asked.Asked.{Asked}
+use Rattle.chan_flags.specs.declared.verdict.PowerSetting.{PowerSetting}
 use Rattle.chan_flags.specs.declared.asked.Obstacle.TheVariants.{Missing, Unruled, Narrow, OfdmBarred, IrBarred, OutdoorBarred}
+use Rattle.chan_flags.specs.declared.verdict.ChanRefusal.{ChanRefusal}
+use Rattle.chan_flags.specs.declared.verdict.ChanRefusal.TheVariants.{LacksChannel as Lacking, LacksWidth as Narrower, NoRule as Ruleless, TooNarrow as Tight, NoOfdm as Ofdm, NoIr as Ir, NoOutdoor as Outdoor, AboveLimit}
 use Rattle.reg_journal.specs.Facts.{Journal}
 use Rattle.reg_journal.specs.Present.{Iface, Operation, Check, is_apart, is_indoor, abilities_of, ifaces_on, operation_of, check_of}
 use Rattle.reg_journal.specs.Applicable.{applies}
@@ -27,6 +30,17 @@ asked_by J x c = asked (abilities_of J x.radio) c x.kind (is_indoor J) x.setting
 abbrev pub width_mhz : ChanDef → ℕ
 width_mhz c = width_khz c.width / 1000
 
+-- the refusal of the interface which a refusal of its channel is
+abbrev pub refusal_of_channel : ChanRefusal → Refusal
+refusal_of_channel (Lacking s) = RadioLacks s
+refusal_of_channel (Narrower mhz) = RadioLacksWidth mhz
+refusal_of_channel (Ruleless s) = NoRule s
+refusal_of_channel (Tight s) = TooNarrow s
+refusal_of_channel (Ofdm s) = NoOfdm s
+refusal_of_channel (Ir s) = NoIr s
+refusal_of_channel (Outdoor s) = NoOutdoor s
+refusal_of_channel (AboveLimit limit) = Power limit
+
 -- ---- the radio
 
 -- the radio has no channel for a subchannel
@@ -37,14 +51,10 @@ LacksChannel db J x c = AtLowest (Bars (applies db J x.radio) (asked_by J x c) M
 abbrev pub LacksWidth : Journal → Iface → ChanDef → Refusal → Type 0
 LacksWidth J x c = Where ((abilities_of J x.radio).width_mhz < width_mhz c) (RadioLacksWidth (width_mhz c))
 
--- these channels, and each of the others once that isn't among them
-abbrev pub distinct_from : List ChanDef → List ChanDef → List ChanDef
-distinct_from found [] = found
-distinct_from found (c ∷ cs) = distinct_from (if list_any (is_same_channel c) found then found else found ++ c ∷ []) cs
-
--- each channel of the list once
+-- each channel of the list once: each that isn't among those behind it
 abbrev pub distinct : List ChanDef → List ChanDef
-distinct cs = distinct_from [] cs
+distinct [] = []
+distinct (c ∷ cs) = if list_any (is_same_channel c) cs then distinct cs else c ∷ distinct cs
 
 -- the channel that the interface is on: that of its operation, or else of its running check
 abbrev pub channel_in : Option Operation → Option Check → Option ChanDef
@@ -58,6 +68,10 @@ channel_of J x = channel_in (operation_of J x.index) (check_of J x.index)
 -- the channels that the other interfaces of its radio are on
 abbrev pub channels_beside : Journal → Iface → List ChanDef
 channels_beside J x = filter_map (channel_of J) (filter (is_apart x.index) (ifaces_on J x.radio))
+
+-- what the radio forbids: it has no channel for a subchannel, or not the width
+abbrev pub RadioForbids : List Domain → Journal → Iface → ChanDef → Refusal → Type 0
+RadioForbids db J x c = LacksChannel db J x c before LacksWidth J x c
 
 -- With this channel, the radio would be on more channels at once than it can.
 abbrev pub LacksContext : Journal → Iface → ChanDef → Refusal → Type 0
@@ -85,15 +99,19 @@ IsLimitOf db J x c = IsLimit (applies db J x.radio) (asked_by J x c)
 abbrev pub IsPowerOf : List Domain → Journal → Iface → ChanDef → ℕ → Type 0
 IsPowerOf db J x c power = (limit : ℕ) × IsLimitOf db J x c limit × (power ≡ power_of x.setting limit)
 
--- the power that is set is fixed and above the limit
-abbrev pub PassesLimit : List Domain → Journal → Iface → ChanDef → Refusal → Type 0
-PassesLimit db J x c = λ e. (limit : ℕ) × IsLimitOf db J x c limit × IsAbove x.setting limit × (e ≡ Power limit)
+-- a fixed power is above the limit
+abbrev pub PassesLimit : List Domain → Journal → Iface → PowerSetting → ChanDef → Refusal → Type 0
+PassesLimit db J x setting c = λ e. (limit : ℕ) × IsLimitOf db J x c limit × IsAbove setting limit × (e ≡ Power limit)
 
 -- ---- radar
 
 -- the subchannel has to be checked for radar (CAC): some rule has DFS
 abbrev pub IsBoundOn : List Domain → Journal → ℕ → ℕ → Type 0
 IsBoundOn db J r s = IsBound (applies db J r) s
+
+-- it holds of each subchannel that has to be checked, where the interface sends first
+abbrev pub OnEachBound : List Domain → Journal → Iface → ChanDef → (ℕ → Type 0) → Type 0
+OnEachBound db J x c P = IsTrue (initiates x.kind) → (s : ℕ) → IsCovered c s → IsBoundOn db J x.radio s → P s
 
 -- some subchannel has to be checked, and the channel is wider than what the radio can check
 abbrev pub LacksRadarWidth : List Domain → Journal → Iface → ChanDef → Refusal → Type 0
@@ -104,6 +122,10 @@ LacksRadarWidth db J x c =
 -- there was radar on a subchannel that has to be checked, and its nonoccupancy (NOP) isn't over
 abbrev pub MetRadar : List Domain → Journal → Iface → ChanDef → Refusal → Type 0
 MetRadar db J x c = AtLowest (λ s. IsTrue (initiates x.kind) × IsBoundOn db J x.radio s × (IsQuiet J x.radio s → ⊥)) c Radar
+
+-- what radar forbids: the radio can't check so wide, or nonoccupancy isn't over
+abbrev pub RadarForbids : List Domain → Journal → Iface → ChanDef → Refusal → Type 0
+RadarForbids db J x c = LacksRadarWidth db J x c before MetRadar db J x c
 
 -- no check stands for a subchannel that has to be checked
 abbrev pub LacksCheck : List Domain → Journal → Iface → ChanDef → Refusal → Type 0
@@ -117,28 +139,27 @@ HasNothingToCheck db J x c = (s : ℕ) → IsCovered c s → IsBoundOn db J x.ra
 abbrev pub IsLengthOf : List Domain → Journal → Iface → ChanDef → ℕ → Type 0
 IsLengthOf db J x c = IsCheckLength (applies db J x.radio) (asked_by J x c)
 
--- ---- all of it, in order
+-- ---- all of it, in order: the lists differ in contexts, in power and in checks alone
 
 -- what ends an operation on the channel
 abbrev pub EndsOperation : List Domain → Journal → Iface → ChanDef → Refusal → Type 0
 EndsOperation db J x c =
-    LacksChannel db J x c before LacksWidth J x c before RulesForbid db J x c before PassesLimit db J x c
-    before LacksRadarWidth db J x c before MetRadar db J x c before LacksCheck db J x c
+    RadioForbids db J x c before RulesForbid db J x c before PassesLimit db J x x.setting c before RadarForbids db J x c before LacksCheck db J x c
 
 -- the refusals that end a running check of the channel; a change of region ends it too
 abbrev pub EndsCheck : List Domain → Journal → Iface → ChanDef → Refusal → Type 0
-EndsCheck db J x c =
-    LacksChannel db J x c before LacksWidth J x c before RulesForbid db J x c
-    before LacksRadarWidth db J x c before MetRadar db J x c
+EndsCheck db J x c = RadioForbids db J x c before RulesForbid db J x c before RadarForbids db J x c
 
 -- what keeps an operation from the channel
 abbrev pub BarsOperation : List Domain → Journal → Iface → ChanDef → Refusal → Type 0
 BarsOperation db J x c =
-    LacksChannel db J x c before LacksWidth J x c before LacksContext J x c before RulesForbid db J x c before PassesLimit db J x c
-    before LacksRadarWidth db J x c before MetRadar db J x c before LacksCheck db J x c
+    RadioForbids db J x c
+    before LacksContext J x c
+    before RulesForbid db J x c
+    before PassesLimit db J x x.setting c
+    before RadarForbids db J x c
+    before LacksCheck db J x c
 
 -- what keeps a check from the channel
 abbrev pub BarsCheck : List Domain → Journal → Iface → ChanDef → Refusal → Type 0
-BarsCheck db J x c =
-    LacksChannel db J x c before LacksWidth J x c before LacksContext J x c before RulesForbid db J x c
-    before LacksRadarWidth db J x c before MetRadar db J x c
+BarsCheck db J x c = RadioForbids db J x c before LacksContext J x c before RulesForbid db J x c before RadarForbids db J x c

@@ -10,7 +10,7 @@ use Rattle.dfs_states.specs.Greatest.{IsGreatest}
 use Rattle.dfs_states.specs.declared.moments.TheConstants.{NONOCCUPANCY_MS, UNUSED_CHECK_MS}
 use Rattle.dfs_states.specs.declared.dfs.Dfs.{Dfs}
 use Rattle.dfs_states.specs.declared.dfs.Dfs.TheVariants.{Usable, Unavailable, Available}
-use Rattle.reg_journal.specs.Facts.{Fact, Journal, radar_met, check_begun, check_dropped}
+use Rattle.reg_journal.specs.Facts.{Fact, Journal, CameAmong, radar_met, check_begun, check_dropped}
 use Rattle.reg_journal.specs.Present.{Iface, now_of, abilities_of, radio_of, ifaces_on, operation_of}
 use Rattle.reg_journal.specs.Applicable.{region_of}
 
@@ -21,7 +21,7 @@ pub record IsBarred (J : Journal) (r s until : ℕ) : Type 0 where
   pub newer : Journal
   pub chan : ChanDef
   pub older : Journal
-  pub met : J ≡ newer ++ radar_met r chan ∷ older
+  pub met : CameAmong J newer (radar_met r chan) older
   pub covered : IsCovered chan s
   pub ends : until ≡ now_of older + NONOCCUPANCY_MS
 
@@ -36,7 +36,7 @@ pub record HasRadar (facts : Journal) (r s : ℕ) : Type 0 where
   pub newer : Journal
   pub chan : ChanDef
   pub older : Journal
-  pub met : facts ≡ newer ++ radar_met r chan ∷ older
+  pub met : CameAmong facts newer (radar_met r chan) older
   pub covered : IsCovered chan s
 
 -- some check began on the interface
@@ -45,16 +45,16 @@ pub record HasCheck (facts : Journal) (i : ℕ) : Type 0 where
   pub chan : ChanDef
   pub length : ℕ
   pub older : Journal
-  pub begun : facts ≡ newer ++ check_begun i chan length ∷ older
+  pub begun : CameAmong facts newer (check_begun i chan length) older
 
 -- No drop on the interface comes before its next check begins.
 abbrev pub IsKept : Journal → ℕ → Type 0
-IsKept facts i = (newer between : Journal) → facts ≡ newer ++ check_dropped i ∷ between → HasCheck between i
+IsKept facts i = (newer between : Journal) → CameAmong facts newer (check_dropped i) between → HasCheck between i
 
--- The radio's region is after each of these facts what it was just before it. The facts came after `older`.
+-- The radio's region changes at none of these facts: it is after each of them what it was just before. They came after `older`.
 abbrev pub KeepsRegion : List Domain → Journal → Journal → ℕ → Type 0
 KeepsRegion db facts older r =
-    (newer : Journal) (f : Fact) (between : Journal) → facts ≡ newer ++ f ∷ between → region_of db (f ∷ between ++ older) r ≡ region_of db (between ++ older) r
+    (newer : Journal) (f : Fact) (between : Journal) → CameAmong facts newer f between → region_of db (f ∷ between ++ older) r ≡ region_of db (between ++ older) r
 
 -- A check on an interface of the radio, which ends at this moment, counts for the subchannel: it covers it, wasn't dropped,
 -- and since it began the radio met no radar there and its region didn't change.
@@ -64,7 +64,7 @@ pub record Counts (db : List Domain) (J : Journal) (r s end : ℕ) : Type 0 wher
   pub chan : ChanDef
   pub length : ℕ
   pub older : Journal
-  pub begun : J ≡ newer ++ check_begun iface chan length ∷ older
+  pub begun : CameAmong J newer (check_begun iface chan length) older
   pub on_radio : radio_of J iface ≡ Some r
   pub covered : IsCovered chan s
   pub ends : end ≡ now_of older + length

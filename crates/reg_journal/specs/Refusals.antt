@@ -3,7 +3,6 @@ use Rattle.std.specs.Prelude.{◌≡◌, ◌≢◌, ℕ, ◌<◌, ◌≤◌, ◌
 use Rattle.freq_range.specs.First.{IsFirst}
 use Rattle.freq_range.specs.declared.rule.Rule.{Rule}
 use Rattle.rule_tables.specs.Domains.{IsInvalidAt}
-use Rattle.rule_tables.specs.declared.code.Alpha2.{Alpha2}
 use Rattle.rule_tables.specs.declared.domain.Domain.{Domain}
 use Rattle.rule_intersect.specs.Tables.{IsTooMany}
 use Rattle.chan_def.specs.Covered.{IsValidDef}
@@ -12,19 +11,18 @@ use Rattle.chan_def.specs.declared.definition.ChanDef.{ChanDef}
 use Rattle.chan_def.specs.declared.kind.TheConstants.{MOST_IFACES}
 use Rattle.chan_def.specs.declared.kind.Kind.{Kind}
 use Rattle.chan_def.specs.declared.kind.Kind.TheVariants.{Monitor}
-use Rattle.chan_flags.specs.Verdicts.{IsAbove}
 use Rattle.chan_flags.specs.declared.verdict.PowerSetting.{PowerSetting}
 use Rattle.reg_hints.specs.Element.{IsElementFault}
-use Rattle.reg_hints.specs.Table.{Hinted, Treated, Own, IsOneTooMany}
+use Rattle.reg_hints.specs.Table.{Hinted}
 use Rattle.reg_hints.specs.declared.element.ElementFault.TheVariants.{Short, Odd, NotLetters}
 use Rattle.reg_journal.specs.Facts.{Journal, hinted, rules_are}
 use Rattle.dfs_states.specs.declared.moments.TheConstants.{LAST_MOMENT_MS}
 use Rattle.reg_journal.specs.Present.{Iface, most_made, now_of, is_used, profile_of, radios_of, made_of, named, ifaces_on, operation_of, check_of}
-use Rattle.reg_journal.specs.Applicable.{hints_of, find_domain, global_domains, applies}
+use Rattle.reg_journal.specs.Applicable.{applies, code_of_hint, find_domain, global_domains, AddsFifthCode}
 use Rattle.reg_journal.specs.Causes.{◌before◌, Where}
-use Rattle.reg_journal.specs.Permits.{IsLimitOf, BarsOperation, BarsCheck, HasNothingToCheck}
+use Rattle.reg_journal.specs.Permits.{PassesLimit, BarsOperation, BarsCheck, HasNothingToCheck}
 use Rattle.reg_journal.specs.declared.refusal.Refusal.{Refusal}
-use Rattle.reg_journal.specs.declared.refusal.Refusal.TheVariants.{MomentBack, MomentTooLarge, NoRadio, SlotUsed, NoInterface, NameTaken, Full, WrongType, Busy, BadChannel, Power, DriverFailed, NothingToCheck, NotRunning, NoCountry, TooManyDomains, TooManyRows, NoRules, TooManyRules, BadRule, ElementShort, ElementOdd, ElementNotLetters}
+use Rattle.reg_journal.specs.declared.refusal.Refusal.TheVariants.{MomentBack, MomentTooLarge, NoRadio, SlotUsed, NoInterface, NameTaken, Full, WrongType, Busy, BadChannel, DriverFailed, NothingToCheck, NotRunning, NoCountry, TooManyDomains, TooManyRows, NoRules, TooManyRules, BadRule, ElementShort, ElementOdd, ElementNotLetters}
 
 -- ---- moments and radios
 
@@ -77,15 +75,10 @@ ElementCauses body =
     before (λ e. (n : ℕ) × IsElementFault body (Odd n) × (e ≡ ElementOdd n))
     before Where (IsElementFault body NotLetters) ElementNotLetters
 
--- a driver's hint on a self-managed radio never touches the global list
-abbrev pub AddsFifthCode : Journal → Hinted → Type 0
-AddsFifthCode J (Treated hint) = IsOneTooMany (hints_of J) hint
-AddsFifthCode J (Own r a) = ⊥
-
--- what speaks against a hint for this code, which would be taken so
-abbrev pub HintCauses : List Domain → Journal → Alpha2 → Hinted → Refusal → Type 0
-HintCauses db J a hint =
-    Where (find_domain db a ≡ None) (NoCountry a)
+-- what speaks against the hint: its code has no domain, it adds a fifth code, and too many rows with it
+abbrev pub HintCauses : List Domain → Journal → Hinted → Refusal → Type 0
+HintCauses db J hint =
+    Where (find_domain db (code_of_hint hint) ≡ None) (NoCountry (code_of_hint hint))
     before Where (AddsFifthCode J hint) TooManyDomains
     before RowCauses (all_lists db (hinted hint ∷ J))
 
@@ -114,10 +107,9 @@ IsInUse J x = IsSome (operation_of J x.index) ⊎ IsSome (check_of J x.index)
 abbrev pub SetTypeCauses : Journal → List ℕ → Refusal → Type 0
 SetTypeCauses J name = OnIface J name (λ x. Where (IsInUse J x) Busy)
 
--- an operation runs, and this fixed power is above its limit
+-- what speaks against a power setting: an operation runs, and the fixed power is above its limit
 abbrev pub SetPowerCauses : List Domain → Journal → List ℕ → PowerSetting → Refusal → Type 0
-SetPowerCauses db J name setting = OnIface J name (λ x e. IsSomeAnd (operation_of J x.index)
-    (λ o. (limit : ℕ) × IsLimitOf db J x o.chan limit × IsAbove setting limit × (e ≡ Power limit)))
+SetPowerCauses db J name setting = OnIface J name (λ x e. IsSomeAnd (operation_of J x.index) (λ o. PassesLimit db J x setting o.chan e))
 
 -- what speaks against a stop: the interface is of another type, or does not operate
 abbrev pub StopCauses : Journal → List ℕ → Kind → Refusal → Type 0

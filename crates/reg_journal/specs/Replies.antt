@@ -1,11 +1,10 @@
 -- What is replied to each request over the journal, and which facts it appends: the first refusal whose condition holds, with
 -- no fact, or else what is granted.
-use Rattle.std.specs.Prelude.{◌≡◌, ◌≢◌, ℕ, ◌+◌, ◌<◌, ◌⊎◌, Bool, ◌||◌, cond, List, [], ◌∷◌, ◌++◌, All, None, MatchOption, IsSomeAnd}
+use Rattle.std.specs.Prelude.{◌≡◌, ◌≢◌, ℕ, ◌+◌, ◌⊎◌, Bool, ◌||◌, cond, List, [], ◌∷◌, ◌++◌, MatchOption, IsSomeAnd}
 use Rattle.std.specs.List.{flat_map}
 use Rattle.rule_tables.specs.Databases.{IsDb}
 use Rattle.rule_tables.specs.declared.code.Alpha2.{Alpha2}
 use Rattle.rule_tables.specs.declared.domain.Domain.{Domain}
-use Rattle.chan_flags.specs.Profiles.{IsProfile}
 use Rattle.chan_flags.specs.declared.verdict.PowerSetting.{PowerSetting}
 use Rattle.reg_hints.specs.Element.{IsElement}
 use Rattle.reg_hints.specs.Table.{Hinted, Treated, Own, treatment}
@@ -17,7 +16,7 @@ use Rattle.reg_journal.specs.Applicable.{hints_of, is_self_managed}
 use Rattle.reg_journal.specs.Causes.{◌before◌, IsFree}
 use Rattle.reg_journal.specs.Permits.{IsPowerOf, IsLengthOf}
 use Rattle.reg_journal.specs.Refusals.{MomentCauses, LacksRadio, RadioAddCauses, RulesCauses, ElementCauses, HintCauses, IfaceAddCauses, LacksIface, SetTypeCauses, SetPowerCauses, StopCauses, StartCauses, CheckCauses, RadarCauses}
-use Rattle.reg_journal.specs.Requests.{IsTyped}
+use Rattle.reg_journal.specs.Requests.{IsAskable, IsTyped}
 use Rattle.reg_journal.specs.Sweep.{AreSwept, released}
 use Rattle.reg_journal.specs.Effects.{effects_of}
 use Rattle.reg_journal.specs.Dumps.{AreSections, AreShownChannels, IsRadioReport, IsIfaceReport}
@@ -66,9 +65,9 @@ abbrev pub answer_of : Journal → Hinted → HintAnswer
 answer_of J (Treated hint) = ByTable (treatment (hints_of J) hint)
 answer_of J (Own r a) = ByItself
 
--- a hint for this code, which is taken so: all interfaces are swept
-abbrev pub Hints : List Domain → Journal → Alpha2 → Hinted → Reply → List Fact → Type 0
-Hints db J a hint = Decides (HintCauses db J a hint) (Sweeps db J (HintTaken (answer_of J hint)) (hinted hint) (ifaces_of J))
+-- a hint: all interfaces are swept
+abbrev pub Hints : List Domain → Journal → Hinted → Reply → List Fact → Type 0
+Hints db J hint = Decides (HintCauses db J hint) (Sweeps db J (HintTaken (answer_of J hint)) (hinted hint) (ifaces_of J))
 
 -- a driver's hint, on a self-managed radio or not
 abbrev pub driver_hint : Journal → ℕ → Alpha2 → Hinted
@@ -81,7 +80,7 @@ element_hint J r a = Treated (ElementHint r a ((abilities_of J r).deaf || is_sel
 -- after a good body, the hint of its code; the faults of the body come before
 abbrev pub Hears : List Domain → Journal → ℕ → List ℕ → Reply → List Fact → Type 0
 Hears db J r body = Decides (LacksRadio J r before ElementCauses body)
-    (λ reply facts. (e : Element) × IsElement body e × Hints db J e.alpha2 (element_hint J r e.alpha2) reply facts)
+    (λ reply facts. (e : Element) × IsElement body e × Hints db J (element_hint J r e.alpha2) reply facts)
 
 -- ---- radios and interfaces that go
 
@@ -113,8 +112,8 @@ Replies db J (RadioAdd r profile) failed = Decides (RadioAddCauses J r) (Gives O
 Replies db J (RadioDel r) failed = Decides (LacksRadio J r) (GivesEffects J Ok (facts_of_removal J r))
 Replies db J (RadioRules r rules) failed = Decides (RulesCauses db J r rules) (Sweeps db J Ok (rules_are r rules) (ifaces_on J r))
 Replies db J (HeardElement r body) failed = Hears db J r body
-Replies db J (DriverHint r a) failed = Decides (LacksRadio J r) (Hints db J a (driver_hint J r a))
-Replies db J (UserHint a) failed = Hints db J a (Treated (User a))
+Replies db J (DriverHint r a) failed = Decides (LacksRadio J r) (Hints db J (driver_hint J r a))
+Replies db J (UserHint a) failed = Hints db J (Treated (User a))
 Replies db J (Radar r c) failed = Decides (RadarCauses J r c) (Sweeps db J Ok (radar_met r c) (ifaces_on J r))
 Replies db J (Indoor on) failed = Sweeps db J Ok (indoor_is on) (ifaces_of J)
 Replies db J (IfaceAdd r name kind) failed = Decides (IfaceAddCauses J r name) (Gives Ok (made (made_of J + 1) name r kind ∷ []))
@@ -138,13 +137,7 @@ Replies db J (IfaceInfo name) failed = Decides (LacksIface J name)
 abbrev pub Steps : List Domain → Journal → Request → Bool → Reply → Journal → Type 0
 Steps db J q failed reply next = (facts : List Fact) × Replies db J q failed reply facts × (next ≡ after facts J)
 
--- A radio has a number and a profile that there are; a radio's custom rules carry neither a check time nor a WMM rule.
-abbrev pub IsAskable : Request → Type 0
-IsAskable (RadioAdd r profile) = (r < 8) × IsProfile profile
-IsAskable (RadioRules r rules) = All (λ rule. (rule.cac_s ≡ 0) × (rule.wmm ≡ None)) rules
-IsAskable q = Unit {0}
-
--- A journal is regular where requests led to it, each of its type, over a database with its ranges.
+-- A journal is regular where requests led to it, each of its type and askable, over a database with its ranges.
 pub data IsRegular (db : List Domain) : Journal → Type 0 where
   at_first : IsDb db → IsRegular db []
   one_more : (J next : Journal) (q : Request) (failed : Bool) (reply : Reply) → IsRegular db J → IsTyped q → IsAskable q → Steps db J q failed reply next

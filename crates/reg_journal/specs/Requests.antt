@@ -1,5 +1,5 @@
--- What the types of a request say of its parts.
-use Rattle.std.specs.Prelude.{ℕ, ◌^◌, ◌<◌, ◌≤◌, All}
+-- What a request is: what its types say of its parts, and what they don't.
+use Rattle.std.specs.Prelude.{◌≡◌, ℕ, ◌^◌, ◌<◌, ◌≤◌, All, None}
 use Rattle.freq_range.specs.declared.rule.Rule.{Rule}
 use Rattle.rule_tables.specs.declared.code.Alpha2.{Alpha2}
 use Rattle.chan_def.specs.declared.definition.ChanDef.{ChanDef}
@@ -58,3 +58,8 @@ IsTyped GetReg = Unit {0}
 IsTyped (Channels r) = IsRadioNo r
 IsTyped (RadioInfo r) = IsRadioNo r
 IsTyped (IfaceInfo name) = IsName name
+
+-- What the types don't say: a radio's custom rules carry neither a check time nor a WMM rule.
+abbrev pub IsAskable : Request → Type 0
+IsAskable (RadioRules r rules) = All (λ rule. (rule.cac_s ≡ 0) × (rule.wmm ≡ None)) rules
+IsAskable q = Unit {0}

@@ -3,28 +3,21 @@ use Rattle.std.specs.Prelude.{◌≡◌, ◌≢◌, ℕ, ◌⊎◌, List, [], �
 use Rattle.std.specs.Option.{option_to_list}
 use Rattle.rule_tables.specs.declared.domain.Domain.{Domain}
 use Rattle.chan_def.specs.declared.definition.ChanDef.{ChanDef}
-use Rattle.reg_journal.specs.Facts.{Fact, Journal, stopped, powered, check_begun, check_dropped}
+use Rattle.reg_journal.specs.Facts.{Fact, Journal, CameAmong, stopped, powered, check_begun, check_dropped}
 use Rattle.reg_journal.specs.Present.{Iface, Operation, Check, operation_of, check_of}
-use Rattle.reg_journal.specs.Applicable.{region_of}
 use Rattle.reg_journal.specs.Causes.{SomeComes, IsFree}
-use Rattle.reg_journal.specs.Radar.{HasCheck}
+use Rattle.reg_journal.specs.Radar.{HasCheck, KeepsRegion}
 use Rattle.reg_journal.specs.Permits.{EndsOperation, EndsCheck, IsPowerOf}
 
--- The region of the interface's radio changed after the interface's last check began: at some fact it differs just after
--- from just before.
+-- The region of the interface's radio changed after the interface's last check began: it changed at some fact since.
 pub record RegionChangedInCheck (db : List Domain) (J : Journal) (x : Iface) : Type 0 where
   pub newer : Journal
   pub chan : ChanDef
   pub length : ℕ
   pub older : Journal
-  pub begun : J ≡ newer ++ check_begun x.index chan length ∷ older
+  pub begun : CameAmong J newer (check_begun x.index chan length) older
   pub last : HasCheck newer x.index → ⊥
-  pub later : Journal
-  pub fact : Fact
-  pub between : Journal
-  pub at : newer ≡ later ++ fact ∷ between
-  pub differs : region_of db (fact ∷ between ++ check_begun x.index chan length ∷ older) x.radio
-      ≢ region_of db (between ++ check_begun x.index chan length ∷ older) x.radio
+  pub changed : KeepsRegion db newer (check_begun x.index chan length ∷ older) x.radio → ⊥
 
 -- the running check has to go
 abbrev pub MustDrop : List Domain → Journal → Iface → Check → Type 0

@@ -17,13 +17,15 @@ ghost use Rattle.reg_journal.specs.Codes.{code_and_errno};
 ghost use Rattle.reg_journal.specs.Due.{EachMayFollow};
 ghost use Rattle.reg_journal.specs.Effects.{HasFewEffects};
 ghost use Rattle.reg_journal.specs.Facts.{Fact, Journal, after, started};
+ghost use Rattle.reg_journal.specs.Forms.{IsLineRequest, IsReplyTo, IsShownReply};
 ghost use Rattle.reg_journal.specs.Granted.{IsGranted, IsStartable};
 ghost use Rattle.reg_journal.specs.OnAir.{StartedBefore, TellsCheck, is_on, on_air_of, told_of};
 ghost use Rattle.reg_journal.specs.Permits.{BarsOperation, IsPowerOf};
 ghost use Rattle.reg_journal.specs.Present.{Iface, ifaces_of, ifaces_on, named, operation_of};
 ghost use Rattle.reg_journal.specs.Radar.{HasLapsed, IsQuiet, IsState, NoneStands, Stands};
 ghost use Rattle.reg_journal.specs.Replies.{IsRegular, Replies};
-ghost use Rattle.reg_journal.specs.Rows.{checked_row, radar_row};
+ghost use Rattle.reg_journal.specs.Requests.{IsAskable, IsTyped};
+ghost use Rattle.reg_journal.specs.Rows.{checked_row, disturbed_row, radar_row};
 ghost use Rattle.reg_journal.specs.Settled.{AreSettled, IsSettled};
 ghost use Rattle.reg_journal.specs.Sweep.{AreSwept};
 ghost use Rattle.reg_journal.specs.declared.effects.Effect.{Effect};
@@ -162,8 +164,35 @@ pub fn check_of_a_minute()
         → region_of db (checked_row profile name c moment) 0 ≢ Etsi → NoneStands db (checked_row profile name c moment) 0 s }
 {}
 
+/// Radar at 30,000 ms beside a running check of 60,000 ms voids it for the subchannels on which radar was
+/// met, and for no other: these it stands for at 60,000 ms.
+pub fn radar_beside_a_check()
+    ensures voided { (db : List Domain) (profile : Abilities) (name : List ℕ) (c met : ChanDef) (moment s : ℕ) → IsCovered met s
+        → NoneStands db (disturbed_row profile name c met moment) 0 s }
+    ensures spared { (db : List Domain) (profile : Abilities) (name : List ℕ) (c met : ChanDef) (moment s : ℕ) → IsCovered c s → (IsCovered met s → ⊥)
+        → 60000 ≤ moment → moment < 62000 → Stands db (disturbed_row profile name c met moment) 0 s 60000 }
+{}
+
 /// After radar at 70,000 ms the channel's subchannels are quiet at 1,870,000 ms, and not at 1,869,999.
 pub fn nonoccupancy_of_half_an_hour()
     ensures quiet { (profile : Abilities) (c : ChanDef) (moment s : ℕ) → 1870000 ≤ moment → IsQuiet (radar_row profile c moment) 0 s }
     ensures barred { (profile : Abilities) (c : ChanDef) (moment s : ℕ) → IsCovered c s → moment < 1870000 → IsQuiet (radar_row profile c moment) 0 s → ⊥ }
+{}
+
+/// Each reply has a form in which its request may be answered.
+pub fn replies_have_a_form()
+    ensures { (db : List Domain) (journal : Journal) (q : Request) (failed : Bool) (reply : Reply) (facts : List Fact)
+        → Replies db journal q failed reply facts → IsReplyTo q reply }
+{}
+
+/// Over a regular journal each reply to a request that a line can say can be printed and sent: its codes
+/// and names are visible, its frequencies are whole MHz, and no list of it is empty.
+pub fn replies_can_be_shown()
+    ensures { (db : List Domain) (journal : Journal) (q : Request) (failed : Bool) (reply : Reply) (facts : List Fact)
+        → IsRegular db journal → IsTyped q → IsLineRequest q → Replies db journal q failed reply facts → IsShownReply reply }
+{}
+
+/// A request that a line can say may be asked of a step.
+pub fn line_requests_are_askable()
+    ensures { (q : Request) → IsLineRequest q → IsAskable q }
 {}
