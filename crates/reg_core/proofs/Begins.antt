@@ -1,4 +1,4 @@
--- Begins in a slot are checks of the interface that has the slot.
+-- CheckBegins in a slot are checks of the interface that has the slot.
 use Rattle.std.proofs.Common.{◌≡◌, ℕ, List, [], ◌∷◌, ◌++◌, Some, sym, ap, subst, ◌∙◌, inl, inr, ne_eqb}
 use Rattle.std.proofs.lemmas.Bool.{cases_eq}
 use Rattle.rule_tables.specs.declared.domain.Domain.{Domain}

@@ -2,15 +2,16 @@
 use Rattle.std.proofs.Common.{◌≡◌, ℕ, ◌+◌, ◌==◌, ◌<◌, ◌≤◌, cond, Bool, true, false, ◌&&◌, not, List, [], ◌∷◌, ◌++◌, length, drop, get_or, map, filter, filter_map, Option, Some, None, arith, refl, sym, ap, subst, ◌∙◌}
 use Rattle.std.specs.List.{cons_option, list_any}
 use Rattle.std.proofs.lemmas.Bool.{eqb-true}
-use Rattle.std.proofs.lemmas.List.{at_drop_more, get_or-map, get_or_default, length-append, length-map}
+use Rattle.std.proofs.lemmas.List.{at_drop_more, drop_all, get_or-map, get_or_default, length-append, length-map}
 use Rattle.chan_def.specs.declared.definition.ChanDef.{ChanDef}
 use Rattle.rule_tables.specs.declared.domain.Domain.{Domain}
 use Rattle.dfs_states.specs.Book.{Book}
 use Rattle.dfs_states.specs.StandsFor.{BookStandsFor}
 use Rattle.reg_journal.specs.Facts.{Journal}
 use Rattle.chan_def.specs.Same.{is_same_channel}
-use Rattle.reg_journal.specs.Permits.{channel_of, distinct_from}
+use Rattle.reg_journal.specs.Permits.{channel_of, distinct}
 use Rattle.reg_journal.specs.Present.{Iface, ifaces_of, is_apart}
+use Rattle.reg_journal.proofs.Distinct.{gathered, length-gathered}
 use Rattle.reg_core.specs.Calls.{calls_of, opening_of}
 use Rattle.reg_core.specs.inner.Contexts.{IsBeside, IsOf, added, channel_beside}
 use Rattle.reg_core.specs.inner.Judging.{IsAmong}
@@ -44,7 +45,7 @@ added_longer found c = elim (list_any (is_same_channel c) found) as (λ b. lengt
   | false ↦ let more = length-append found (c ∷ []) in omega (arith, more)
 ]
 
-distinct_longer : (found cs : List ChanDef) → length found ≤ length (distinct_from found cs)
+distinct_longer : (found cs : List ChanDef) → length found ≤ length (gathered found cs)
 distinct_longer found [] = omega arith
 distinct_longer found (c ∷ cs) =
     let more = added_longer found c in
@@ -83,11 +84,11 @@ is_of_other db J x y book interface other is on = record {
 
 -- one interface more
 walk_more : (J : Journal) (x y : Iface) (found : List ChanDef) (ys : List Iface) (i : ℕ) (o : Option ChanDef) → i < length ys → y ≡ get_or ys i y → o ≡ channel_beside J x y
-    → distinct_from found (beside_all J x (drop i ys)) ≡ distinct_from found (cons_option o (beside_all J x (drop (i + 1) ys)))
+    → gathered found (beside_all J x (drop i ys)) ≡ gathered found (cons_option o (beside_all J x (drop (i + 1) ys)))
 walk_more J x y found ys i o within here is =
-    at_drop_more (λ zs. distinct_from found (beside_all J x zs)) ys i y within
-    ∙ ap (λ (z : Iface). distinct_from found (cons_option (channel_beside J x z) (beside_all J x (drop (i + 1) ys)))) (sym here)
-    ∙ ap (λ p. distinct_from found (cons_option p (beside_all J x (drop (i + 1) ys)))) (sym is)
+    at_drop_more (λ zs. gathered found (beside_all J x zs)) ys i y within
+    ∙ ap (λ (z : Iface). gathered found (cons_option (channel_beside J x z) (beside_all J x (drop (i + 1) ys)))) (sym here)
+    ∙ ap (λ p. gathered found (cons_option p (beside_all J x (drop (i + 1) ys)))) (sym is)
 
 -- the interface at a place of what is kept
 record IsAt (J : Journal) (ys : List Iface) (i : ℕ) (interface : Interface) : Type 0 where
@@ -131,7 +132,7 @@ of_among db J x interface interfaces radio is = record {
 -- so a walk over one interface more still gives all
 pub walk_on : (db : List Domain) (J : Journal) (x : Iface) (interface : Interface) (interfaces : List Interface) (radio : Radio) (other : Interface) (i : ℕ) (found all : List ChanDef) (o : Option ChanDef)
     → IsAmong db J x interface interfaces radio → i < length interfaces → other ≡ get_or interfaces i other → ((y : Iface) → IsBeside db J x y radio.book interface other → o ≡ channel_beside J x y)
-    → distinct_from found (beside_all J x (drop i (ifaces_of J))) ≡ all → distinct_from found (cons_option o (beside_all J x (drop (i + 1) (ifaces_of J)))) ≡ all
+    → gathered found (beside_all J x (drop i (ifaces_of J))) ≡ all → gathered found (cons_option o (beside_all J x (drop (i + 1) (ifaces_of J)))) ≡ all
 walk_on db J x interface interfaces radio other i found all o is within here told so_far =
     let at_place : IsAt J (ifaces_of J) i other = subst (λ p. IsAt J (ifaces_of J) i p) (sym here) (kept_at J x interfaces i other is.interfaces_are within) in
     let y = at_place.iface in
@@ -140,15 +141,26 @@ walk_on db J x interface interfaces radio other i found all o is within here tol
 
 -- the rest of the walk adds to what is found
 pub walk_passes : (J : Journal) (x : Iface) (ys : List Iface) (found all : List ChanDef) (c : ChanDef) (o : Option ChanDef) (most : ℕ) → o ≡ Some c → most < length (added found c)
-    → distinct_from found (cons_option o (beside_all J x ys)) ≡ all → most < length all
+    → gathered found (cons_option o (beside_all J x ys)) ≡ all → most < length all
 walk_passes J x ys found all c o most some passes walked =
-    let same = ap length (sym (ap (λ p. distinct_from found (cons_option p (beside_all J x ys))) some) ∙ walked) in
+    let same = ap length (sym (ap (λ p. gathered found (cons_option p (beside_all J x ys))) some) ∙ walked) in
     let rest = distinct_longer (added found c) (beside_all J x ys) in
     omega (arith, passes, same, rest)
 
 -- what the walk found there is among the found channels
-pub walk_some : (found new rest all : List ChanDef) (c : ChanDef) (o : Option ChanDef) → o ≡ Some c → new ≡ added found c → distinct_from found (cons_option o rest) ≡ all → distinct_from new rest ≡ all
-walk_some found new rest all c o some same walked = ap (λ cs. distinct_from cs rest) same ∙ sym (ap (λ p. distinct_from found (cons_option p rest)) some) ∙ walked
+pub walk_some : (found new rest all : List ChanDef) (c : ChanDef) (o : Option ChanDef) → o ≡ Some c → new ≡ added found c → gathered found (cons_option o rest) ≡ all → gathered new rest ≡ all
+walk_some found new rest all c o some same walked = ap (λ cs. gathered cs rest) same ∙ sym (ap (λ p. gathered found (cons_option p rest)) some) ∙ walked
 
-pub walk_none : (found new rest all : List ChanDef) (o : Option ChanDef) → o ≡ None → new ≡ found → distinct_from found (cons_option o rest) ≡ all → distinct_from new rest ≡ all
-walk_none found new rest all o none same walked = ap (λ cs. distinct_from cs rest) same ∙ sym (ap (λ p. distinct_from found (cons_option p rest)) none) ∙ walked
+pub walk_none : (found new rest all : List ChanDef) (o : Option ChanDef) → o ≡ None → new ≡ found → gathered found (cons_option o rest) ≡ all → gathered new rest ≡ all
+walk_none found new rest all o none same walked = ap (λ cs. gathered cs rest) same ∙ sym (ap (λ p. gathered found (cons_option p rest)) none) ∙ walked
+
+-- at its end no more are found than the radio can be on
+pub walk_ended : (J : Journal) (x : Iface) (interfaces : List Interface) (found all : List ChanDef) (i most : ℕ) → interfaces ≡ interfaces_of J → length interfaces ≤ i
+    → gathered found (beside_all J x (drop i (ifaces_of J))) ≡ gathered [] all → length found ≤ most → most < length (distinct all) → ⊥
+walk_ended J x interfaces found all i most same past walked few more =
+    let each = ap length same in
+    let mapped = length-map (ifaces_of J) (kept J) in
+    let none : drop i (ifaces_of J) ≡ [] = drop_all i (ifaces_of J) (omega (arith, past, each, mapped)) in
+    let ended = ap length (sym (ap (λ ys. gathered found (beside_all J x ys)) none) ∙ walked) in
+    let counted = length-gathered all in
+    omega (arith, ended, counted, few, more)

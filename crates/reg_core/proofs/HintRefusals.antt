@@ -6,12 +6,12 @@ use Rattle.rule_tables.specs.declared.domain.Domain.{Domain}
 use Rattle.rule_intersect.specs.Tables.{IsTableOf, Joined}
 use Rattle.rule_intersect.specs.declared.fault.ResolveFault.{ResolveFault}
 use Rattle.rule_intersect.specs.declared.fault.ResolveFault.TheVariants.{TooManyRows, OutOfMemory}
-use Rattle.reg_hints.specs.Table.{Hinted, IsOneTooMany, State, Treated, after_hint}
+use Rattle.reg_hints.specs.Table.{Hinted, hinted_code, IsOneTooMany, State, Treated, after_hint}
 use Rattle.reg_hints.specs.declared.hint.Hint.{Hint}
-use Rattle.reg_journal.specs.Applicable.{find_domain, hints_of}
+use Rattle.reg_journal.specs.Applicable.{AddsFifthCode, code_of_hint, find_domain, hints_of}
 use Rattle.reg_journal.specs.Causes.{IsFree}
 use Rattle.reg_journal.specs.Facts.{Journal, hinted}
-use Rattle.reg_journal.specs.Refusals.{AddsFifthCode, HintCauses, IsTooLongAt, RowCauses, all_lists}
+use Rattle.reg_journal.specs.Refusals.{HintCauses, IsTooLongAt, RowCauses, all_lists}
 use Rattle.reg_journal.specs.declared.refusal.Refusal.TheVariants.{NoCountry, TooManyDomains}
 use Rattle.reg_journal.proofs.Granting.{free-before, free-where}
 use Rattle.reg_core.specs.inner.Deciding.{IsReason}
@@ -72,16 +72,16 @@ free_of_rows db hints hint places tables are e cause =
 -- ---- a hint
 
 -- the hint's code is known, it adds no fifth one, and all hints then have led to these
-pub record MayLead (db : List Domain) (J : Journal) (a : Alpha2) (hint : Hint) (led : State) : Type 0 where
-  pub known : find_domain db a ≡ None → ⊥
+pub record MayLead (db : List Domain) (J : Journal) (hint : Hint) (led : State) : Type 0 where
+  pub known : find_domain db (hinted_code hint) ≡ None → ⊥
   pub few : AddsFifthCode J (Treated hint) → ⊥
   pub led_is : led ≡ hints_of (hinted (Treated hint) ∷ J)
 
 -- as it is seen from what is kept
-pub may_lead : (db domains : List Domain) (J : Journal) (a : Alpha2) (hint : Hint) (hints led : State) → domains ≡ db → hints ≡ hints_of J → (find_domain domains a ≡ None → ⊥)
-    → (IsOneTooMany hints hint → ⊥) → led ≡ after_hint hint hints → MayLead db J a hint led
-may_lead db domains J a hint hints led db_is hints_are known few led_is = record {
-  known = subst (λ ds. find_domain ds a ≡ None → ⊥) db_is known;
+pub may_lead : (db domains : List Domain) (J : Journal) (a : Alpha2) (hint : Hint) (hints led : State) → domains ≡ db → hints ≡ hints_of J → a ≡ hinted_code hint → (find_domain domains a ≡ None → ⊥)
+    → (IsOneTooMany hints hint → ⊥) → led ≡ after_hint hint hints → MayLead db J hint led
+may_lead db domains J a hint hints led db_is hints_are code known few led_is = record {
+  known = subst (λ code. find_domain db code ≡ None → ⊥) code (subst (λ ds. find_domain ds a ≡ None → ⊥) db_is known);
   few = subst (λ s. IsOneTooMany s hint → ⊥) hints_are few;
   led_is = led_is ∙ ap (after_hint hint) hints_are;
 }
@@ -93,21 +93,21 @@ lists_after_hint db J hint led places eight kept led_is =
     ap₂ (λ ds lists. ds ∷ lists) (ap (global_by db) led_is) (lists_of_radios db J hint led places eight kept (sym led_is))
 
 -- where all lists have tables, nothing speaks against it
-pub free_of_tables : (db : List Domain) (J : Journal) (a : Alpha2) (hint : Hint) (led : State) (places : List RadioPlace) (tables : HintTables) → MayLead db J a hint led
-    → length places ≡ 8 → KeepsRadios db J places → AreHintTables db led hint places tables → IsFree (HintCauses db J a (Treated hint))
-free_of_tables db J a hint led places tables may eight kept are =
+pub free_of_tables : (db : List Domain) (J : Journal) (hint : Hint) (led : State) (places : List RadioPlace) (tables : HintTables) → MayLead db J hint led
+    → length places ≡ 8 → KeepsRadios db J places → AreHintTables db led hint places tables → IsFree (HintCauses db J (Treated hint))
+free_of_tables db J hint led places tables may eight kept are =
     free-before _ _ (free-where _ _ may.known)
     (free-before _ _ (free-where _ _ may.few)
     (subst (λ lists. IsFree (RowCauses lists)) (lists_after_hint db J hint led places eight kept may.led_is) (free_of_rows db led hint places tables are)))
 
 -- and else the rows do
-pub reason_of_rows : (db : List Domain) (J : Journal) (a : Alpha2) (hint : Hint) (led : State) (places : List RadioPlace) (d : Declined) → MayLead db J a hint led
+pub reason_of_rows : (db : List Domain) (J : Journal) (hint : Hint) (led : State) (places : List RadioPlace) (d : Declined) → MayLead db J hint led
     → length places ≡ 8 → KeepsRadios db J places → IsReason (RowCauses (global_by db led ∷ lists_after db led hint 0 places)) ⊥ d
-    → IsReason (HintCauses db J a (Treated hint)) ⊥ d
-reason_of_rows db J a hint led places (Refused e) may eight kept cause =
+    → IsReason (HintCauses db J (Treated hint)) ⊥ d
+reason_of_rows db J hint led places (Refused e) may eight kept cause =
     inr (free-where _ _ may.known, inr (free-where _ _ may.few, subst (λ lists. RowCauses lists e) (lists_after_hint db J hint led places eight kept may.led_is) cause))
-reason_of_rows db J a hint led places PutOff may eight kept off = off
-reason_of_rows db J a hint led places NoMemory may eight kept reason = tt
+reason_of_rows db J hint led places PutOff may eight kept off = off
+reason_of_rows db J hint led places NoMemory may eight kept reason = tt
 
 -- ---- a hint that nothing speaks against
 
@@ -116,14 +116,14 @@ pub some_unless_none : {X : Type 0} (o : Option X) → (o ≡ None → ⊥) → 
 some_unless_none None there = absurd (there refl)
 some_unless_none (Some x) there = refl
 
-code_known : (db : List Domain) (J : Journal) (a : Alpha2) (hint : Hinted) → IsFree (HintCauses db J a hint) → find_domain db a ≡ None → ⊥
-code_known db J a hint free none = free (NoCountry a) (inl (none, refl))
+code_known : (db : List Domain) (J : Journal) (hint : Hinted) → IsFree (HintCauses db J hint) → find_domain db (code_of_hint hint) ≡ None → ⊥
+code_known db J hint free none = free (NoCountry (code_of_hint hint)) (inl (none, refl))
 
-pub known_domain : (db : List Domain) (J : Journal) (a : Alpha2) (hint : Hinted) → IsFree (HintCauses db J a hint) → IsSome (find_domain db a)
-known_domain db J a hint free = some_unless_none (find_domain db a) (code_known db J a hint free)
+pub known_domain : (db : List Domain) (J : Journal) (hint : Hinted) → IsFree (HintCauses db J hint) → IsSome (find_domain db (code_of_hint hint))
+known_domain db J hint free = some_unless_none (find_domain db (code_of_hint hint)) (code_known db J hint free)
 
-pub no_fifth_code : (db : List Domain) (J : Journal) (a : Alpha2) (hint : Hinted) → IsFree (HintCauses db J a hint) → AddsFifthCode J hint → ⊥
-no_fifth_code db J a hint free many = free TooManyDomains (inr (free-where _ _ (code_known db J a hint free), inl (many, refl)))
+pub no_fifth_code : (db : List Domain) (J : Journal) (hint : Hinted) → IsFree (HintCauses db J hint) → AddsFifthCode J hint → ⊥
+no_fifth_code db J hint free many = free TooManyDomains (inr (free-where _ _ (code_known db J hint free), inl (many, refl)))
 
 -- ---- the global list before those of the radios
 

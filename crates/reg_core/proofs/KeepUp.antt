@@ -1,27 +1,29 @@
 -- What a step leaves of the drivers.
-use Rattle.std.proofs.Common.{◌≡◌, ◌==◌, ◌<◌, ℕ, true, List, [], Contains, Option, Some, None, IsSomeAnd, length, le_refl, refl, sym, ap, subst, ◌∙◌, ◌∷◌, inl, inr}
+use Rattle.std.proofs.Common.{◌≡◌, ◌==◌, ◌<◌, ℕ, true, List, [], Contains, Option, Some, None, IsSomeAnd, length, le_refl, refl, sym, ap, subst, ◌∙◌, ◌∷◌, inl, inr, eq-eqb, ne_eqb}
 use Rattle.std.proofs.lemmas.Bool.{cases_eq}
+use Rattle.std.proofs.lemmas.Option.{none-some, same_Some}
 use Rattle.std.specs.Option.{option_map}
 use Rattle.rule_tables.specs.declared.domain.Domain.{Domain}
 use Rattle.chan_def.specs.declared.definition.ChanDef.{ChanDef}
-use Rattle.chan_def.specs.declared.kind.Kind.{Kind}
 use Rattle.radio_drv.specs.Air.{started as put_on_air, stopped as taken_off}
 use Rattle.radio_drv.specs.Seen.{Seen}
 use Rattle.radio_drv.specs.declared.on_air.CheckTold.{CheckTold}
 use Rattle.radio_drv.specs.declared.on_air.OnAir.{OnAir}
 use Rattle.radio_drv.proofs.Once.{nothing_once}
 use Rattle.reg_journal.specs.Due.{EachMayFollow}
-use Rattle.reg_journal.specs.Facts.{Fact, Journal, started, stopped}
+use Rattle.reg_journal.specs.Facts.{Fact, Journal, check_begun, started, stopped}
 use Rattle.reg_journal.specs.OnAir.{entry, on_air_of}
 use Rattle.reg_journal.specs.Present.{Iface, ifaces_of, named}
 use Rattle.reg_journal.specs.declared.reply.Reply.{Reply}
 use Rattle.reg_journal.specs.declared.request.Request.{Request}
-use Rattle.reg_journal.specs.declared.request.Request.TheVariants.{Start, Check}
-use Rattle.reg_core.specs.DriverRows.{AllGoOn, AreDriven, Follows, GoesOn, HasFailed, HasOnAir, HasRisen, IsDriven, driver_at, told_after}
-use Rattle.reg_core.specs.Told.{DriverFails, OneGoes, DriverTakes}
+use Rattle.reg_journal.specs.declared.request.Request.TheVariants.{Check}
+use Rattle.reg_journal.specs.declared.reply.Answer.TheVariants.{Checking}
+use Rattle.reg_journal.specs.declared.reply.Reply.TheVariants.{Plain}
+use Rattle.reg_core.specs.DriverRows.{AllGoOn, AreDriven, Follows, GoesOn, HasFailed, HasOnAir, HasRisen, IsDriven, driven_radio, driver_at, told_after}
+use Rattle.reg_core.specs.Told.{DriverFails, DriverHears, OneGoes, DriverTakes}
 use Rattle.reg_core.proofs.AirEntries.{both, leaves_air}
 use Rattle.reg_core.proofs.Driven.{driven_at, driven_left, driven_started, driven_stopped, follows_started, follows_stopped}
-use Rattle.reg_core.proofs.Following.{follows_at, follows_left, other_driver}
+use Rattle.reg_core.proofs.Following.{as_many, follows_at, follows_left, other_driver}
 
 -- The drivers follow to the next journal and have on air what operates there, where they did, and each goes on.
 pub record KeepUp (J next : Journal) (q : Request) (reply : Reply) (row row' : List (Option Seen)) : Type 0 where
@@ -133,21 +135,86 @@ fails_risen (Some s) None fails = absurd fails
 fails_risen None (Some s') fails = absurd fails
 fails_risen None None fails = absurd fails
 
--- a start that is refused where the driver fails
-pub drivers_at_failure : (db : List Domain) (J : Journal) (x : Iface) (name : List ℕ) (kind : Kind) (c : ChanDef) (reply : Reply) (row row' : List (Option Seen))
-    (radio : ℕ) → radio ≡ x.radio → EachMayFollow db J → named J name ≡ Some x → OneGoes radio DriverFails row row'
-    → KeepUp J J (Start name kind c) reply row row' × HasFailed J (Start name kind c) row row'
-drivers_at_failure db J x name kind c reply row row' radio its_radio due is goes =
+-- a request that is refused where the driver of its radio fails
+pub drivers_at_failure : (db : List Domain) (J : Journal) (q : Request) (reply : Reply) (row row' : List (Option Seen))
+    (radio : ℕ) → driven_radio J q ≡ Some radio → BeginsNothing J q reply → EachMayFollow db J → OneGoes radio DriverFails row row'
+    → KeepUp J J q reply row row' × HasFailed J q row row'
+drivers_at_failure db J q reply row row' radio driven begins due goes =
     let stays : OneGoes radio (DriverTakes (λ air. air)) row row' =
     record { went = fails_takes (driver_at row radio) (driver_at row' radio) goes.went; rest = goes.rest } in (
       record {
         follows = follows_at J J radio (λ air. air) row row' (λ r. refl) (λ r. both (radio == r) (on_air_of J r)) stays;
         driven = driven_at db J J radio (λ air. air) row row' due due (λ r. refl)
             (record { moved = λ i o. o; on_list = λ air i. refl; of_fact = λ i. refl; keeps = λ air has. has.is_air }) (λ r i other. refl) stays;
-        drivers = all_go_on J (Start name kind c) reply radio (λ air. air) row row' (λ r before. refl) stays;
+        drivers = all_go_on J q reply radio (λ air. air) row row' begins stays;
       },
-      rw (is, ← its_radio) (fails_risen (driver_at row radio) (driver_at row' radio) goes.went),
+      rw driven (fails_risen (driver_at row radio) (driver_at row' radio) goes.went),
     )
+
+-- ---- where one is told of a check
+
+-- what is on air stays
+hears_air : (check : CheckTold) (place place' : Option Seen) → DriverHears check place place' → option_map (λ (s : Seen). s.air) place' ≡ option_map (λ (s : Seen). s.air) place
+hears_air check (Some s) (Some s') hears = ap (λ air. Some air) hears.air
+hears_air check (Some s) None hears = absurd hears
+hears_air check None place' hears = absurd hears
+
+all_air : (radio : ℕ) (check : CheckTold) (row row' : List (Option Seen)) → OneGoes radio (DriverHears check) row row' → (r : ℕ)
+    → option_map (λ (s : Seen). s.air) (driver_at row' r) ≡ option_map (λ (s : Seen). s.air) (driver_at row r)
+all_air radio check row row' goes r = elim (cases_eq r radio) [
+  | inl same ↦ subst (λ n. option_map (λ (s : Seen). s.air) (driver_at row' n) ≡ option_map (λ (s : Seen). s.air) (driver_at row n)) (sym same)
+      (hears_air check (driver_at row radio) (driver_at row' radio) goes.went)
+  | inr other ↦ ap (option_map (λ (s : Seen). s.air)) (other_driver radio r (DriverHears check) row row' goes other)
+]
+
+-- drivers that have on air what others have follow as they do
+follows_air : (J : Journal) (row row' : List (Option Seen)) → length row' ≡ length row
+    → ((r : ℕ) → option_map (λ (s : Seen). s.air) (driver_at row' r) ≡ option_map (λ (s : Seen). s.air) (driver_at row r)) → Follows J row → Follows J row'
+follows_air J row row' long same follows = record { eight = long ∙ follows.eight; each = λ r below. same r ∙ follows.each r below }
+
+driven_air : (J : Journal) (r : ℕ) (o o' : Option Seen) → option_map (λ (s : Seen). s.air) o' ≡ option_map (λ (s : Seen). s.air) o → IsDriven J r o → IsDriven J r o'
+driven_air J r None None same driven = driven
+driven_air J r None (Some s') same driven = absurd (none-some s'.air (sym same))
+driven_air J r (Some s) None same driven = absurd (none-some s.air same)
+driven_air J r (Some s) (Some s') same driven = (driven.0, subst (HasOnAir J r) (same_Some s.air s'.air (sym same)) driven.1)
+
+-- each driver goes on, and that of the interface's radio is told of its check
+check_goes_on : (J : Journal) (x : Iface) (name : List ℕ) (c : ChanDef) (ms : ℕ) (row row' : List (Option Seen)) → named J name ≡ Some x
+    → OneGoes x.radio (DriverHears (record { iface = x.index; chan = c; length_ms = ms })) row row' → AllGoOn J (Check name c) (Plain (Checking ms) []) row row'
+check_goes_on J x name c ms row row' is goes r s' there = elim (cases_eq r x.radio) [
+  | inl same ↦
+      hears r same (driver_at row r) (subst (λ o. DriverHears (record { iface = x.index; chan = c; length_ms = ms }) (driver_at row r) o) there
+      (subst (λ n. DriverHears (record { iface = x.index; chan = c; length_ms = ms }) (driver_at row n) (driver_at row' n)) (sym same) goes.went))
+  | inr other ↦
+      subst (λ o. IsSomeAnd o (λ s. GoesOn J (Check name c) (Plain (Checking ms) []) r s s'))
+      (sym (sym (other_driver x.radio r (DriverHears (record { iface = x.index; chan = c; length_ms = ms })) row row' goes other) ∙ there))
+      (record { told = sym (untold r other s'.told); later = le_refl s'.count; steady = refl; never = λ steady. refl })
+]
+  where
+    told : (r : ℕ) → r ≡ x.radio → (before : Option CheckTold) → told_after J (Check name c) (Plain (Checking ms) []) r before ≡ Some (record { iface = x.index; chan = c; length_ms = ms })
+    told r same before = rw (is, eq-eqb x.radio r (sym same)) refl
+
+    untold : (r : ℕ) → (r ≡ x.radio → ⊥) → (before : Option CheckTold) → told_after J (Check name c) (Plain (Checking ms) []) r before ≡ before
+    untold r other before = rw (is, ne_eqb x.radio r (λ same. other (sym same))) refl
+
+    hears : (r : ℕ) → r ≡ x.radio → (o : Option Seen) → DriverHears (record { iface = x.index; chan = c; length_ms = ms }) o (Some s')
+        → IsSomeAnd o (λ s. GoesOn J (Check name c) (Plain (Checking ms) []) r s s')
+    hears r same None takes = absurd takes
+    hears r same (Some s) takes = record { told = takes.told ∙ sym (told r same s.told); later = takes.later; steady = takes.steady; never = takes.never }
+
+pub drivers_at_check : (db : List Domain) (J : Journal) (x : Iface) (name : List ℕ) (c : ChanDef) (ms : ℕ) (row row' : List (Option Seen)) → EachMayFollow db (check_begun x.index c ms ∷ J)
+    → named J name ≡ Some x → OneGoes x.radio (DriverHears (record { iface = x.index; chan = c; length_ms = ms })) row row'
+    → KeepUp J (check_begun x.index c ms ∷ J) (Check name c) (Plain (Checking ms) []) row row'
+drivers_at_check db J x name c ms row row' due is goes =
+    let same = all_air x.radio (record { iface = x.index; chan = c; length_ms = ms }) row row' goes in
+    let long = as_many x.radio (DriverHears (record { iface = x.index; chan = c; length_ms = ms })) row row' goes in
+    record {
+      follows = λ follows. follows_air (check_begun x.index c ms ∷ J) row row' long same (follows_left db (check_begun x.index c ms) J row due refl follows);
+      driven = λ driven.
+          let left = driven_left db (check_begun x.index c ms) J row due refl driven in
+          record { eight = long ∙ left.eight; each = λ r below. driven_air (check_begun x.index c ms ∷ J) r (driver_at row r) (driver_at row' r) (same r) (left.each r below) };
+      drivers = check_goes_on J x name c ms row row' is goes;
+    }
 
 -- ---- at first
 

@@ -8,8 +8,7 @@ use Rattle.rule_intersect.specs.Tables.{IsTableOf, Joined}
 use Rattle.chan_flags.specs.Profiles.{IsProfile}
 use Rattle.chan_flags.specs.Records.{AreRecords, Recorded}
 use Rattle.dfs_states.specs.Book.{Book}
-use Rattle.chan_def.specs.declared.definition.ChanDef.{ChanDef}
-use Rattle.dfs_states.specs.Calls.{Advance, Operate, RegionChanged}
+use Rattle.dfs_states.specs.Calls.{Advance, RegionChanged}
 use Rattle.dfs_states.specs.Meaning.{MayBeCalled as IsCallDue}
 use Rattle.dfs_states.specs.StandsFor.{BookStandsFor}
 use Rattle.reg_hints.specs.Table.{Hinted, Own, State, Treated}
@@ -21,13 +20,12 @@ use Rattle.reg_journal.specs.Applicable.{applies, custom_domains, driver_code_of
 use Rattle.reg_journal.specs.Due.{MayFollow}
 use Rattle.reg_journal.specs.Facts.{Fact, Journal, hinted, moment_is, rules_are}
 use Rattle.reg_journal.specs.Present.{custom_rules_of, no_abilities}
-use Rattle.reg_core.specs.Calls.{call_of, calls_of, checks_last_on, opening_of, pushed}
+use Rattle.reg_core.specs.Calls.{calls_of, checks_last_on, opening_of, pushed}
 use Rattle.reg_core.specs.inner.Hinting.{driver_after, list_after}
 use Rattle.reg_core.specs.Kept.{KeepsRadio, KeepsPlace}
 use Rattle.reg_core.specs.inner.Lists.{applies_by, region_by}
 use Rattle.reg_core.specs.declared.radio.Radio.{Radio}
 use Rattle.reg_core.specs.declared.radio.RadioPlace.{RadioPlace}
-use Rattle.reg_core.specs.inner.Operating.{TellsOperation}
 use Rattle.reg_core.proofs.NewRadios.{applies_by-same}
 use Rattle.reg_core.proofs.Moments.{now_of-calls}
 
@@ -48,34 +46,6 @@ advanced db J r now old book kept due stands =
       records = kept.records;
       book = stands (omega (arith, same, later), due.1);
     }
-
--- ---- operations
-
-pub operated : (db : List Domain) (J : Journal) (r : ℕ) (old : Radio) (f : Fact) (i slot : ℕ) (chan : Option ChanDef) (book : Book) → KeepsRadio db J r old → TellsOperation f i chan
-    → call_of db f J r ≡ Some (Operate slot chan) → BookStandsFor book (map (λ c. c.khz) old.chans.chans) (opening_of db r) (Operate slot chan ∷ calls_of db J r)
-    → KeepsRadio db (f ∷ J) r (record old { book = book })
-operated db J r old f i slot None book kept tells call stands =
-    subst (λ g. call_of db g J r ≡ Some (Operate slot None) → KeepsRadio db (g ∷ J) r (record old { book = book })) (sym tells)
-    (λ call'. record {
-      profile = kept.profile;
-      is_profile = kept.is_profile;
-      custom = kept.custom;
-      driver = kept.driver;
-      table = kept.table;
-      records = kept.records;
-      book = rw call' stands;
-    }) call
-operated db J r old f i slot (Some c) book kept tells call stands =
-    subst (λ g. call_of db g J r ≡ Some (Operate slot (Some c)) → KeepsRadio db (g ∷ J) r (record old { book = book })) (sym tells.1)
-    (λ call'. record {
-      profile = kept.profile;
-      is_profile = kept.is_profile;
-      custom = kept.custom;
-      driver = kept.driver;
-      table = kept.table;
-      records = kept.records;
-      book = rw call' stands;
-    }) call
 
 -- what a new moment does to a place
 abbrev pub Advances : ℕ → ℕ → RadioPlace → RadioPlace → Type 0

@@ -7,24 +7,25 @@ use Rattle.chan_def.specs.Covered.{IsCovered}
 use Rattle.chan_def.specs.Kinds.{initiates}
 use Rattle.chan_def.specs.declared.definition.ChanDef.{ChanDef}
 use Rattle.dfs_states.specs.Greatest.{IsGreatest}
-use Rattle.chan_flags.specs.Fits.{IsGranting}
 use Rattle.chan_flags.specs.Profiles.{Abilities}
-use Rattle.chan_flags.specs.Verdicts.{asked, Bars, HasWidth, IsBound, NoneBars}
-use Rattle.chan_flags.specs.declared.asked.Obstacle.TheVariants.{Missing, Unruled, Narrow, OfdmBarred, IrBarred, OutdoorBarred}
+use Rattle.chan_flags.specs.Verdicts.{asked, IsBound}
 use Rattle.reg_journal.specs.Applicable.{applies, region_of}
 use Rattle.reg_journal.specs.Due.{EachMayFollow}
 use Rattle.reg_journal.specs.Facts.{Fact, Journal, radar_met, check_begun, check_dropped}
 use Rattle.reg_journal.specs.Granted.{IsPermitted}
-use Rattle.reg_journal.specs.Permits.{asked_by, width_mhz, IsBoundOn}
+use Rattle.reg_journal.specs.Permits.{asked_by, IsBoundOn}
 use Rattle.reg_journal.specs.Present.{Check, Iface, abilities_of, check_of, is_indoor, no_abilities, now_of, profile_of}
 use Rattle.reg_journal.specs.Radar.{HasCheck, HasLapsed, HasRadar, IsKept, IsQuiet, IsUse, IsUsed, KeepsRegion, Stands, WasUsedAt}
 use Rattle.reg_journal.specs.Settled.{IsCheckPermitted}
 use Rattle.reg_journal.specs.Sweep.{RegionChangedInCheck}
+use Rattle.reg_journal.proofs.Fitting.{carried_over, fits_over, given_over}
+use Rattle.reg_journal.proofs.Lasting.{region_kept_by_none}
 use Rattle.reg_core.proofs.Drops.{some_value}
 use Rattle.reg_core.proofs.LastCheck.{check_before, check_parts}
 use Rattle.reg_core.proofs.Later.{now_later, radio_later}
 use Rattle.reg_core.proofs.Splits.{check_older, not_split, split_cases}
-use Rattle.reg_core.proofs.Unchanged.{SparesRadio, applies-spared, profile_of-spared, region_of-spared}
+use Rattle.reg_core.specs.inner.Sparing.{SparesRadio}
+use Rattle.reg_core.proofs.Unchanged.{applies-spared, profile_of-spared, region_of-spared}
 
 -- The fact leaves the domains that apply to the radio, its profile and its region, and where the radios stand, and is no radar that
 -- the radio met.
@@ -208,30 +209,21 @@ stands_stays db f J r s end due leaves held stands =
 -- a region that changed in a check had changed before
 region_changed_before : (db : List Domain) (f : Fact) (J : Journal) (x : Iface) → region_of db (f ∷ J) x.radio ≡ region_of db J x.radio
     → RegionChangedInCheck db (f ∷ J) x → RegionChangedInCheck db J x
-region_changed_before db f J x same changed = elim (split_cases f J changed.newer changed.older (check_begun x.index changed.chan changed.length) changed.begun) [
-  | inl (none, _, _) ↦ absurd (not_split changed.later changed.between changed.fact (sym none ∙ changed.at))
-  | inr (newer, is, begun) ↦
-      let base : Journal = check_begun x.index changed.chan changed.length ∷ changed.older in
-      elim (split_cases f newer changed.later changed.between changed.fact (sym is ∙ changed.at)) [
-        | inl (_, fact, rest) ↦
-            let whole : J ≡ changed.between ++ base = begun ∙ ap (λ xs. xs ++ base) rest in
-            absurd (changed.differs (subst (λ g. region_of db (g ∷ (changed.between ++ base)) x.radio ≡ region_of db (changed.between ++ base) x.radio) fact
-            (subst (λ xs. region_of db (f ∷ xs) x.radio ≡ region_of db xs x.radio) whole same)))
-        | inr (later, _, at) ↦ record {
-          newer = newer;
-          chan = changed.chan;
-          length = changed.length;
-          older = changed.older;
-          begun = begun;
-          last = λ has. changed.last (subst (λ xs. HasCheck xs x.index) (sym is) (check_older f newer x.index has));
-          later = later;
-          fact = changed.fact;
-          between = changed.between;
-          at = at;
-          differs = changed.differs;
-        }
-      ]
+region_changed_before db f J x same moved = elim (split_cases f J moved.newer moved.older (check_begun x.index moved.chan moved.length) moved.begun) [
+  | inl (none, _, _) ↦ absurd (moved.changed (subst (λ facts. KeepsRegion db facts base x.radio) (sym none) (region_kept_by_none db base x.radio)))
+  | inr (newer, is, begun) ↦ record {
+    newer = newer;
+    chan = moved.chan;
+    length = moved.length;
+    older = moved.older;
+    begun = begun;
+    last = λ has. moved.last (subst (λ facts. HasCheck facts x.index) (sym is) (check_older f newer x.index has));
+    changed = λ keeps. moved.changed (subst (λ facts. KeepsRegion db facts base x.radio) (sym is) (region_stays db f J newer base x.radio begun same keeps));
+  }
 ]
+  where
+    base : Journal
+    base = check_begun x.index moved.chan moved.length ∷ moved.older
 
 -- ---- what may go on
 
@@ -248,19 +240,12 @@ asked_stays db f J x c leaves =
 bound_before : (db : List Domain) (f : Fact) (J : Journal) (r s : ℕ) → LeavesRadio db f J r → IsBoundOn db (f ∷ J) r s → IsBoundOn db J r s
 bound_before db f J r s leaves bound = subst (λ ds. IsBound ds s) leaves.domains bound
 
-radar_width_stays : (db : List Domain) (f : Fact) (J : Journal) (r : ℕ) (c : ChanDef) → LeavesRadio db f J r → width_mhz c ≤ (abilities_of J r).radar_mhz
-    → width_mhz c ≤ (abilities_of (f ∷ J) r).radar_mhz
-radar_width_stays db f J r c leaves has = subst (λ (a : Abilities). width_mhz c ≤ a.radar_mhz) (sym (abilities_stay db f J r leaves)) has
-
 pub permitted_stays : (db : List Domain) (f : Fact) (J : Journal) (x : Iface) (c : ChanDef) (power : ℕ) → EachMayFollow db (f ∷ J) → LeavesRadio db f J x.radio
     → (IsTrue (initiates x.kind) → (s : ℕ) → IsCovered c s → IsHeld f J x.radio s) → IsPermitted db J x c power → IsPermitted db (f ∷ J) x c power
 permitted_stays db f J x c power due leaves held may = record {
-  fits = (
-    may.fits.0,
-    subst (λ q. IsGranting (applies db (f ∷ J) x.radio) q power may.fits.0) (sym (asked_stays db f J x c leaves))
-        (subst (λ ds. IsGranting ds (asked_by J x c) power may.fits.0) (sym leaves.domains) may.fits.1),
-  );
-  radar_width = λ sends s covered bound. radar_width_stays db f J x.radio c leaves (may.radar_width sends s covered (bound_before db f J x.radio s leaves bound));
+  carried = carried_over db J (f ∷ J) x c (abilities_stay db f J x.radio leaves) leaves.domains may.carried;
+  fits = fits_over db J (f ∷ J) x c power (asked_stays db f J x c leaves) leaves.domains may.fits;
+  given = given_over db J (f ∷ J) x c power (asked_stays db f J x c leaves) leaves.domains may.given;
   clear = λ sends s covered bound.
       let clear = may.clear sends s covered (bound_before db f J x.radio s leaves bound) in
       record {
@@ -273,14 +258,8 @@ permitted_stays db f J x c power due leaves held may = record {
 pub check_permitted_stays : (db : List Domain) (f : Fact) (J : Journal) (x : Iface) (k : Check) → EachMayFollow db (f ∷ J) → LeavesRadio db f J x.radio
     → IsCheckPermitted db J x k → IsCheckPermitted db (f ∷ J) x k
 check_permitted_stays db f J x k due leaves may = record {
-  has_width = subst HasWidth (sym (asked_stays db f J x k.chan leaves)) may.has_width;
-  none_bars =
-      subst (λ q. NoneBars (Bars (applies db (f ∷ J) x.radio) q) k.chan (Missing ∷ Unruled ∷ Narrow ∷ OfdmBarred ∷ IrBarred ∷ OutdoorBarred ∷ []))
-      (sym (asked_stays db f J x k.chan leaves))
-      (subst (λ ds. NoneBars (Bars ds (asked_by J x k.chan)) k.chan (Missing ∷ Unruled ∷ Narrow ∷ OfdmBarred ∷ IrBarred ∷ OutdoorBarred ∷ []))
-      (sym leaves.domains) may.none_bars);
-  radar_width = λ sends s covered bound.
-      radar_width_stays db f J x.radio k.chan leaves (may.radar_width sends s covered (bound_before db f J x.radio s leaves bound));
+  carried = carried_over db J (f ∷ J) x k.chan (abilities_stay db f J x.radio leaves) leaves.domains may.carried;
+  fits = fits_over db J (f ∷ J) x k.chan 0 (asked_stays db f J x k.chan leaves) leaves.domains may.fits;
   quiet = λ sends s covered bound. quiet_stays db f J x.radio s due leaves (may.quiet sends s covered (bound_before db f J x.radio s leaves bound));
   same_region = λ changed. may.same_region (region_changed_before db f J x leaves.region changed);
 }

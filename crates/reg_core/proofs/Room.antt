@@ -14,14 +14,17 @@ use Rattle.radio_drv.specs.Seen.{Seen}
 use Rattle.radio_drv.specs.declared.on_air.OnAir.{OnAir}
 use Rattle.reg_journal.specs.Due.{EachMayFollow}
 use Rattle.reg_journal.specs.Facts.{Journal, made, ended, typed, set_to}
-use Rattle.reg_journal.specs.Present.{Iface, new_iface, ifaces_of, ifaces_on, is_apart, is_removed, profile_of, with_kind, with_setting}
+use Rattle.reg_journal.specs.Present.{Iface, new_iface, ifaces_of, ifaces_on, is_apart, is_removed, named, profile_of, with_kind, with_setting}
 use Rattle.reg_core.specs.DriverRows.{AreDriven, HasOnAir, IsDriven, driver_at}
 use Rattle.reg_core.specs.Told.{HasRoom}
 use Rattle.reg_core.proofs.AirEntries.{found_behind}
 use Rattle.reg_core.proofs.Airs.{air_at}
 use Rattle.reg_core.proofs.Homes.{radio-with_kind, radio-with_setting}
 use Rattle.reg_core.proofs.Interfaces.{home_listed}
-use Rattle.reg_core.proofs.Listed.{Contains-find}
+use Rattle.reg_core.proofs.Listed.{Contains-find, named_listed}
+use Rattle.reg_journal.proofs.Operations.{some_of_property}
+use Rattle.reg_core.specs.Kept.{kept}
+use Rattle.reg_core.specs.declared.interface.Interface.{Interface}
 use Rattle.reg_core.proofs.Operating.{home_there, there_small, there_stays}
 
 -- ---- how many interfaces a radio has
@@ -188,6 +191,12 @@ room_for db J x row radio index its_radio its_index due driven there =
     by : (o : Option Seen) → is_removed J x.radio ≡ false → IsDriven J x.radio o → HasRoom o x.index
     by None stays gone = absurd (false≢true (sym stays ∙ gone))
     by (Some s) stays is = place_for db J x s.air due there is.1
+
+pub driver_for : (db : List Domain) (J : Journal) (x : Iface) (name : List ℕ) (p : Interface) (row : List (Option Seen)) → EachMayFollow db J → AreDriven J row → named J name ≡ Some x → p ≡ kept J x
+    → IsSome (driver_at row p.radio)
+driver_for db J x name p row due driven is kept_is =
+    some_of_property (driver_at row p.radio) _
+    (room_for db J x row p.radio x.index (ap (λ (q : Interface). q.radio) kept_is) refl due driven (named_listed J name x is))
 
 -- eight drivers are seen in eight places
 pub eight_places : {X : Type 0} (f : X → Option Seen) (xs : List X) (J : Journal) → AreDriven J (map f xs) → length xs ≡ 8

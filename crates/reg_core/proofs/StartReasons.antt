@@ -1,7 +1,6 @@
 -- Why an operation doesn't start or stop, in order.
-use Rattle.std.proofs.Common.{◌≡◌, ◌≢◌, ◌⊎◌, ℕ, Bool, true, false, List, Option, Some, None, IsSome, IsSomeAnd, refl, sym, ap, ◌∙◌, inl, inr}
+use Rattle.std.proofs.Common.{◌≡◌, ◌≢◌, ◌↔◌, ◌⊎◌, ℕ, Bool, true, false, List, Option, Some, None, IsSome, IsSomeAnd, IsTrue, Contains, is_some, refl, sym, ap, subst, ◌∙◌, inl, inr}
 use Rattle.std.proofs.lemmas.Bool.{false≢true}
-use Rattle.std.proofs.lemmas.Option.{none-some}
 use Rattle.rule_tables.specs.declared.domain.Domain.{Domain}
 use Rattle.chan_def.specs.Covered.{IsValidDef}
 use Rattle.chan_def.specs.declared.definition.ChanDef.{ChanDef}
@@ -9,15 +8,24 @@ use Rattle.chan_def.specs.declared.kind.Kind.{Kind}
 use Rattle.chan_def.specs.declared.kind.Kind.TheVariants.{Monitor}
 use Rattle.reg_journal.specs.Causes.{IsFree, ◌before◌, Where, AtLowest}
 use Rattle.reg_journal.specs.Facts.{Journal}
-use Rattle.reg_journal.specs.Permits.{BarsOperation, channel_in, channel_of}
-use Rattle.reg_journal.specs.Present.{Check, Iface, Operation, check_of, named, operation_of}
+use Rattle.reg_journal.specs.Due.{EachMayFollow, MayStart}
+use Rattle.reg_journal.specs.Granted.{IsStartable}
+use Rattle.reg_journal.specs.Permits.{BarsOperation}
+use Rattle.reg_journal.specs.Present.{Check, Iface, Operation, check_of, ifaces_of, named, operation_of}
 use Rattle.reg_journal.specs.Refusals.{FailsDriver, InUseFor, InvalidChannel, StartCauses, StopCauses}
 use Rattle.reg_journal.specs.declared.refusal.Refusal.{Refusal}
 use Rattle.reg_journal.specs.declared.refusal.Refusal.TheVariants.{BadChannel, Busy, DriverFailed, NoInterface, NotRunning, WrongType}
+use Rattle.reg_journal.proofs.Regular.{is_none}
+use Rattle.reg_journal.proofs.Starting.{tells_kind}
 use Rattle.reg_journal.proofs.Granting.{free-before, free-where, free_of_granted}
+use Rattle.std.specs.Option.{option_map}
+use Rattle.std.proofs.lemmas.Option.{none-some}
+use Rattle.reg_core.specs.Kept.{kept, kept_operation}
+use Rattle.reg_core.specs.inner.Contexts.{checked_channel}
 use Rattle.reg_core.specs.inner.Starting.{HasStart}
 use Rattle.reg_core.specs.Stepping.{is_failure}
 use Rattle.reg_core.specs.declared.interface.Interface.{Interface}
+use Rattle.reg_core.proofs.Listed.{indexed_listed}
 
 -- ---- starts
 
@@ -40,37 +48,65 @@ start_of_wrong_kind db J kind c failed x other = inl (other, refl)
 pub start_while_busy : (db : List Domain) (J : Journal) (kind : Kind) (c : ChanDef) (failed : Bool) (x : Iface) → x.kind ≡ kind → InUseFor J x kind → BarsStart db J kind c failed x Busy
 start_while_busy db J kind c failed x same used = inr (free-where _ _ (λ other. other same), inl (used, refl))
 
--- ---- an interface that does nothing
+-- ---- an interface that is free for a start
 
-pub in_use_by_channel : (J : Journal) (x : Iface) (kind : Kind) (c : ChanDef) → kind ≢ Monitor → Some c ≡ channel_of J x → InUseFor J x kind
-in_use_by_channel J x kind c other on = by (operation_of J x.index) (check_of J x.index) on
+pub start_on_bad_channel : (db : List Domain) (J : Journal) (kind : Kind) (c : ChanDef) (failed : Bool) (x : Iface) → IsStartable J x kind → (IsValidDef c → ⊥)
+    → BarsStart db J kind c failed x BadChannel
+start_on_bad_channel db J kind c failed x may invalid =
+    inr (free-where _ _ (λ other. other may.of_kind), inr (free-where _ _ may.free, inl (invalid, refl)))
+
+pub start_where_barred : (db : List Domain) (J : Journal) (kind : Kind) (c : ChanDef) (failed : Bool) (x : Iface) (e : Refusal) → IsStartable J x kind → IsValidDef c
+    → BarsOperation db J x c e → BarsStart db J kind c failed x e
+start_where_barred db J kind c failed x e may valid bars =
+    inr (free-where _ _ (λ other. other may.of_kind), inr (free-where _ _ may.free, inr (free-where _ _ (λ invalid. invalid valid), inl bars)))
+
+-- what is in use is told by its check, and else by its operation
+pub used_by_check : (J : Journal) (x : Iface) (kind : Kind) (c : ChanDef) → Some c ≡ checked_channel J x → IsTrue true ↔ InUseFor J x kind
+used_by_check J x kind c is = (λ t. inl (by (check_of J x.index) is), λ used. refl)
   where
-    by : (o : Option Operation) (k : Option Check) → Some c ≡ channel_in o k → IsSome k ⊎ (IsSome o × (kind ≢ Monitor))
-    by (Some o) k on = inr (refl, other)
-    by None (Some k) on = inl refl
-    by None None on = absurd (none-some c (sym on))
+    by : (o : Option Check) → Some c ≡ option_map (λ (k : Check). k.chan) o → IsSome o
+    by None none = absurd (none-some c (sym none))
+    by (Some k) some = refl
 
-pub rests_without_channel : (J : Journal) (x : Iface) → None ≡ channel_of J x → (operation_of J x.index ≡ None) × (check_of J x.index ≡ None)
-rests_without_channel J x off = by (operation_of J x.index) (check_of J x.index) off
+pub used_by_operation : (J : Journal) (x : Iface) (kind : Kind) (p : Interface) (b : Bool) → p ≡ kept J x → None ≡ checked_channel J x
+    → (IsTrue b ↔ (IsSome p.operation × (kind ≢ Monitor))) → IsTrue b ↔ InUseFor J x kind
+used_by_operation J x kind p b is none told = (λ t. inr (kept_some (told.0 t).0, (told.0 t).1), λ used. told.1 (by used))
   where
-    by : (o : Option Operation) (k : Option Check) → None ≡ channel_in o k → (o ≡ None) × (k ≡ None)
-    by (Some o) k off = absurd (none-some o.chan off)
-    by None (Some k) off = absurd (none-some k.chan off)
-    by None None off = (refl, refl)
+    same : p.operation ≡ option_map kept_operation (operation_of J x.index)
+    same = ap (λ (q : Interface). q.operation) is
 
-not_in_use : (J : Journal) (x : Iface) (kind : Kind) → operation_of J x.index ≡ None → check_of J x.index ≡ None → InUseFor J x kind → ⊥
-not_in_use J x kind no_operation no_check (inl checks) = absurd (false≢true (rw no_check at checks))
-not_in_use J x kind no_operation no_check (inr operates) = absurd (false≢true (rw no_operation at operates.0))
+    some_of : (o : Option Operation) → IsSome (option_map kept_operation o) → IsSome o
+    some_of None is = is
+    some_of (Some o) is = refl
 
-pub start_on_bad_channel : (db : List Domain) (J : Journal) (kind : Kind) (c : ChanDef) (failed : Bool) (x : Iface) → x.kind ≡ kind → operation_of J x.index ≡ None
-    → check_of J x.index ≡ None → (IsValidDef c → ⊥) → BarsStart db J kind c failed x BadChannel
-start_on_bad_channel db J kind c failed x same no_operation no_check invalid =
-    inr (free-where _ _ (λ other. other same), inr (free-where _ _ (not_in_use J x kind no_operation no_check), inl (invalid, refl)))
+    some_to : (o : Option Operation) → IsSome o → IsSome (option_map kept_operation o)
+    some_to None is = is
+    some_to (Some o) is = refl
 
-pub start_where_barred : (db : List Domain) (J : Journal) (kind : Kind) (c : ChanDef) (failed : Bool) (x : Iface) (e : Refusal) → x.kind ≡ kind → operation_of J x.index ≡ None
-    → check_of J x.index ≡ None → IsValidDef c → BarsOperation db J x c e → BarsStart db J kind c failed x e
-start_where_barred db J kind c failed x e same no_operation no_check valid bars =
-    inr (free-where _ _ (λ other. other same), inr (free-where _ _ (not_in_use J x kind no_operation no_check), inr (free-where _ _ (λ invalid. invalid valid), inl bars)))
+    kept_some : IsSome p.operation → IsSome (operation_of J x.index)
+    kept_some has = some_of (operation_of J x.index) (subst (λ o. IsSome o) same has)
+
+    no_check : (o : Option Check) → None ≡ option_map (λ (k : Check). k.chan) o → IsSome o → ⊥
+    no_check None none has = false≢true has
+    no_check (Some k) some has = none-some k.chan some
+
+    by : InUseFor J x kind → IsSome p.operation × (kind ≢ Monitor)
+    by (inl checks) = absurd (no_check (check_of J x.index) none checks)
+    by (inr (operates, other)) = (subst (λ o. IsSome o) (sym same) (some_to (operation_of J x.index) operates), other)
+
+-- no check runs on it, and an operation that it has is a monitor's
+pub may_start : (db : List Domain) (J : Journal) (x : Iface) (kind : Kind) → EachMayFollow db J → Contains (ifaces_of J) x → IsStartable J x kind → MayStart J x.index
+may_start db J x kind due there may = (
+  is_none (check_of J x.index) (λ some. may.free (inl some)),
+  subst (λ o. IsSomeAnd o (λ y. (operation_of J x.index ≡ None) ⊎ (y.kind ≡ Monitor))) (sym (indexed_listed db J x due there)) (replaces (operation_of J x.index) refl),
+)
+  where
+    replaces : (o : Option Operation) → operation_of J x.index ≡ o → (operation_of J x.index ≡ None) ⊎ (x.kind ≡ Monitor)
+    replaces None none = inl none
+    replaces (Some o) some = elim (tells_kind kind Monitor) [
+      | inl monitor ↦ inr (may.of_kind ∙ monitor)
+      | inr other ↦ absurd (may.free (inr (ap is_some some, other)))
+    ]
 
 -- ---- a start that is granted
 
@@ -78,8 +114,8 @@ pub start_free : (db : List Domain) (J : Journal) (name : List ℕ) (kind : Kind
     → IsFree (StartCauses db J name kind c false)
 start_free db J name kind c interface power has =
     free-before _ _ (free-where _ _ (λ none. let is = has.is_named in absurd (cc (is, none))))
-    (λ e cause. free-before _ _ (free-where _ _ (λ other. other has.right_kind))
-    (free-before _ _ (free-where _ _ (not_in_use J has.iface kind has.no_operation has.no_check))
+    (λ e cause. free-before _ _ (free-where _ _ (λ other. other has.startable.of_kind))
+    (free-before _ _ (free-where _ _ has.startable.free)
     (free-before _ _ (free-where _ _ (λ invalid. invalid (has.granted).valid))
     (free-before _ _ (free_of_granted db J has.iface c power has.granted)
     (free-where _ _ (λ failed. absurd (false≢true failed)))))) e (rw has.is_named at cause))
@@ -89,32 +125,32 @@ pub start_fails : (db : List Domain) (J : Journal) (name : List ℕ) (kind : Kin
 start_fails db J name kind c interface power has =
     start_barred db J name kind c true has.iface DriverFailed has.is_named
     (inr (
-      free-where _ _ (λ other. other has.right_kind),
+      free-where _ _ (λ other. other has.startable.of_kind),
       inr (
-        free-where _ _ (not_in_use J has.iface kind has.no_operation has.no_check),
+        free-where _ _ has.startable.free,
         inr (free-where _ _ (λ invalid. invalid (has.granted).valid), inr (free_of_granted db J has.iface c power has.granted, (refl, refl))),
       ),
     ))
 
 -- ---- no refusal but the last tells of a driver
 
-lowest_is_no_failure : (bars : ℕ → Type 0) (c : ChanDef) (refusal : ℕ → Refusal) (e : Refusal) → ((s : ℕ) → is_failure (refusal s) ≡ false) → AtLowest bars c refusal e
+pub lowest_is_no_failure : (bars : ℕ → Type 0) (c : ChanDef) (refusal : ℕ → Refusal) (e : Refusal) → ((s : ℕ) → is_failure (refusal s) ≡ false) → AtLowest bars c refusal e
     → is_failure e ≡ false
 lowest_is_no_failure bars c refusal e none (s, first, same) = ap is_failure same ∙ none s
 
 bar_is_no_failure : (db : List Domain) (J : Journal) (x : Iface) (c : ChanDef) (e : Refusal) → BarsOperation db J x c e → is_failure e ≡ false
-bar_is_no_failure db J x c e (inl cause) = lowest_is_no_failure _ c _ e (λ s. refl) cause
+bar_is_no_failure db J x c e (inl (inl cause)) = lowest_is_no_failure _ c _ e (λ s. refl) cause
+bar_is_no_failure db J x c e (inl (inr (f1, cause))) = ap is_failure cause.1
 bar_is_no_failure db J x c e (inr (f1, inl cause)) = ap is_failure cause.1
-bar_is_no_failure db J x c e (inr (f1, inr (f2, inl cause))) = ap is_failure cause.1
-bar_is_no_failure db J x c e (inr (f1, inr (f2, inr (f3, inl (inl cause))))) = lowest_is_no_failure _ c _ e (λ s. refl) cause
-bar_is_no_failure db J x c e (inr (f1, inr (f2, inr (f3, inl (inr (g1, inl cause)))))) = lowest_is_no_failure _ c _ e (λ s. refl) cause
-bar_is_no_failure db J x c e (inr (f1, inr (f2, inr (f3, inl (inr (g1, inr (g2, inl cause))))))) = lowest_is_no_failure _ c _ e (λ s. refl) cause
-bar_is_no_failure db J x c e (inr (f1, inr (f2, inr (f3, inl (inr (g1, inr (g2, inr (g3, inl cause)))))))) = lowest_is_no_failure _ c _ e (λ s. refl) cause
-bar_is_no_failure db J x c e (inr (f1, inr (f2, inr (f3, inl (inr (g1, inr (g2, inr (g3, inr (g4, cause))))))))) = lowest_is_no_failure _ c _ e (λ s. refl) cause
-bar_is_no_failure db J x c e (inr (f1, inr (f2, inr (f3, inr (f4, inl cause))))) = ap is_failure cause.3
-bar_is_no_failure db J x c e (inr (f1, inr (f2, inr (f3, inr (f4, inr (f5, inl cause)))))) = ap is_failure cause.1
-bar_is_no_failure db J x c e (inr (f1, inr (f2, inr (f3, inr (f4, inr (f5, inr (f6, inl cause))))))) = lowest_is_no_failure _ c _ e (λ s. refl) cause
-bar_is_no_failure db J x c e (inr (f1, inr (f2, inr (f3, inr (f4, inr (f5, inr (f6, inr (f7, cause)))))))) = lowest_is_no_failure _ c _ e (λ s. refl) cause
+bar_is_no_failure db J x c e (inr (f1, inr (f2, inl (inl cause)))) = lowest_is_no_failure _ c _ e (λ s. refl) cause
+bar_is_no_failure db J x c e (inr (f1, inr (f2, inl (inr (g1, inl cause))))) = lowest_is_no_failure _ c _ e (λ s. refl) cause
+bar_is_no_failure db J x c e (inr (f1, inr (f2, inl (inr (g1, inr (g2, inl cause)))))) = lowest_is_no_failure _ c _ e (λ s. refl) cause
+bar_is_no_failure db J x c e (inr (f1, inr (f2, inl (inr (g1, inr (g2, inr (g3, inl cause))))))) = lowest_is_no_failure _ c _ e (λ s. refl) cause
+bar_is_no_failure db J x c e (inr (f1, inr (f2, inl (inr (g1, inr (g2, inr (g3, inr (g4, cause)))))))) = lowest_is_no_failure _ c _ e (λ s. refl) cause
+bar_is_no_failure db J x c e (inr (f1, inr (f2, inr (f3, inl cause)))) = ap is_failure cause.3
+bar_is_no_failure db J x c e (inr (f1, inr (f2, inr (f3, inr (f4, inl (inl cause)))))) = ap is_failure cause.1
+bar_is_no_failure db J x c e (inr (f1, inr (f2, inr (f3, inr (f4, inl (inr (g, cause))))))) = lowest_is_no_failure _ c _ e (λ s. refl) cause
+bar_is_no_failure db J x c e (inr (f1, inr (f2, inr (f3, inr (f4, inr (f5, cause)))))) = lowest_is_no_failure _ c _ e (λ s. refl) cause
 
 on_named_is_no_failure : (db : List Domain) (J : Journal) (kind : Kind) (c : ChanDef) (x : Iface) (e : Refusal) → BarsStart db J kind c false x e → is_failure e ≡ false
 on_named_is_no_failure db J kind c x e (inl cause) = ap is_failure cause.1

@@ -1,5 +1,5 @@
 -- What an operation that starts, or doesn't, or stops leaves.
-use Rattle.std.proofs.Common.{◌≡◌, ◌^◌, ◌<◌, ◌≤◌, ℕ, arith, unwrap_or, Contains, List, ◌∷◌, Option, Some, None, map, refl, subst, ap, ◌∙◌, inl}
+use Rattle.std.proofs.Common.{◌≡◌, ◌^◌, ◌<◌, ◌≤◌, ℕ, arith, unwrap_or, List, ◌∷◌, Option, Some, IsSome, is_some, refl, sym, subst, ap, ◌∙◌}
 use Rattle.rule_tables.specs.declared.domain.Domain.{Domain}
 use Rattle.chan_def.specs.declared.definition.ChanDef.{ChanDef}
 use Rattle.chan_def.specs.declared.kind.Kind.{Kind}
@@ -7,57 +7,55 @@ use Rattle.radio_drv.specs.Air.{started as put_on_air, stopped as taken_off}
 use Rattle.radio_drv.specs.Seen.{Seen}
 use Rattle.chan_flags.specs.Profiles.{Abilities}
 use Rattle.chan_flags.proofs.Granted.{power_within}
-use Rattle.reg_journal.specs.Due.{EachMayFollow}
+use Rattle.reg_journal.specs.Due.{EachMayFollow, MayFollow}
 use Rattle.reg_journal.specs.Granted.{IsGranted}
 use Rattle.reg_journal.specs.Facts.{Journal, started, stopped}
 use Rattle.reg_journal.specs.OnAir.{entry}
-use Rattle.reg_journal.specs.Present.{Iface, abilities_of, ifaces_of, no_abilities}
+use Rattle.reg_journal.specs.Present.{Iface, abilities_of, no_abilities, operation_of}
 use Rattle.reg_journal.proofs.Granting.{power_of_granted}
 use Rattle.reg_core.specs.DriverRows.{AreDriven, driver_at}
 use Rattle.reg_core.specs.inner.Judging.{IsJudged}
-use Rattle.reg_core.specs.Kept.{KeepsRadio, KeepsRadios, StandsFor, kept}
-use Rattle.reg_core.specs.inner.Interfaces.{with_operation}
-use Rattle.reg_core.specs.inner.Starting.{Falls, HasStart, HasStop, HasRestingIface, Starts, Stops}
+use Rattle.reg_core.specs.Kept.{Keeps, KeepsRadio}
+use Rattle.reg_core.specs.inner.Changes.{IsInterfaceOf}
+use Rattle.reg_journal.specs.Refusals.{StartCauses}
+use Rattle.reg_core.specs.inner.Starting.{Falls, HasStart, HasStop, HasFreeIface, Starts, Stops}
 use Rattle.reg_core.specs.Told.{DriverFails, HasRoom, OneGoes, DriverTakes}
 use Rattle.reg_core.specs.declared.core_state.Core.{Core}
 use Rattle.reg_core.specs.declared.interface.Interface.{Interface}
 use Rattle.reg_core.specs.declared.radio.Radio.{Radio}
-use Rattle.reg_core.specs.declared.radio.RadioPlace.{RadioPlace}
-use Rattle.reg_core.proofs.Listed.{indexed_listed, named_listed}
+use Rattle.reg_core.proofs.KeptChanges.{interface_of_kept}
+use Rattle.reg_core.proofs.Listed.{named_listed}
 use Rattle.reg_core.proofs.Room.{room_for}
-use Rattle.reg_core.proofs.Stands.{stands_after_start, stands_after_stop}
-use Rattle.reg_core.proofs.StartReasons.{start_fails, start_free, stop_free}
+use Rattle.reg_core.proofs.StartReasons.{may_start, start_fails, start_free, stop_free}
 
 -- ---- starts
 
 -- a granted power has 16 bits
 granted_small : (db : List Domain) (J : Journal) (x : Iface) (c : ChanDef) (power : ℕ) (radio : Radio) → KeepsRadio db J x.radio radio → IsGranted db J x c power → power < 2 ^ 16
 granted_small db J x c power radio kept granted =
-    let granting = ((granted.permitted).fits).1 in
+    let given = granted.given in
     let fits = (kept.is_profile).power_fits in
     let profile : abilities_of J x.radio ≡ radio.chans.profile = ap (λ o. unwrap_or o no_abilities) kept.profile in
-    let most : granting.limit ≤ radio.chans.profile.power_mbm = subst (λ (p : Abilities). granting.limit ≤ p.power_mbm) profile (granting.is_limit).radio in
-    let within = power_within x.setting granting.limit granting.within in
-    let is = granting.power_is in
+    let most : given.limit ≤ radio.chans.profile.power_mbm = subst (λ (p : Abilities). given.limit ≤ p.power_mbm) profile (given.is_limit).radio in
+    let within = power_within x.setting given.limit given.within in
+    let is = given.power_is in
     omega (arith, fits, most, within, is)
 
 -- what is granted to an interface that rests
 pub has_start : (db : List Domain) (J : Journal) (name : List ℕ) (kind : Kind) (c : ChanDef) (interface : Interface) (radio : Radio) (power : ℕ)
-    → (rests : HasRestingIface db J name kind interface radio) → IsGranted db J rests.iface c power → HasStart db J name kind c interface power
+    → (rests : HasFreeIface db J name kind interface radio) → IsGranted db J rests.iface c power → HasStart db J name kind c interface power
 has_start db J name kind c interface radio power rests granted = record {
   iface = rests.iface;
   is_named = rests.is_named;
   interface_is = rests.interface_is;
-  right_kind = rests.right_kind;
-  no_operation = rests.no_operation;
-  no_check = rests.no_check;
+  startable = rests.startable;
   granted = granted;
   small = granted_small db J rests.iface c power radio rests.radio_is granted;
 }
 
 -- what the core keeps of it
-pub is_judged : (db : List Domain) (J : Journal) (name : List ℕ) (kind : Kind) (interface : Interface) (radio : Radio) (core : Core) (interfaces : List Interface) → StandsFor db core J
-    → (rests : HasRestingIface db J name kind interface radio) → interfaces ≡ core.interfaces → IsJudged db J rests.iface interface interfaces radio core.indoor
+pub is_judged : (db : List Domain) (J : Journal) (name : List ℕ) (kind : Kind) (interface : Interface) (radio : Radio) (core : Core) (interfaces : List Interface) → Keeps db core J
+    → (rests : HasFreeIface db J name kind interface radio) → interfaces ≡ core.interfaces → IsJudged db J rests.iface interface interfaces radio core.indoor
 is_judged db J name kind interface radio core interfaces s rests same = record {
   among = record {
     due = s.due;
@@ -76,30 +74,26 @@ start_has_room db J name kind c interface power row due driven has =
     room_for db J has.iface row interface.radio interface.index (ap (λ (p : Interface). p.radio) has.interface_is) (ap (λ (p : Interface). p.index) has.interface_is) due driven
     (named_listed J name has.iface has.is_named)
 
-pub starts_done : (db : List Domain) (J : Journal) (name : List ℕ) (kind : Kind) (c : ChanDef) (interface : Interface) (power : ℕ) (core : Core) (interfaces : List Interface)
-    (radios : List RadioPlace) (row row' : List (Option Seen)) → StandsFor db core J → HasStart db J name kind c interface power
-    → ((x : Iface) → interface ≡ kept J x → Contains (ifaces_of J) x → EachMayFollow db (started x.index c power ∷ J) → KeepsRadios db (started x.index c power ∷ J) radios)
-    → interfaces ≡ map (with_operation interface.index (Some (record { chan = c; power_mbm = power }))) core.interfaces
+pub starts_done : (db : List Domain) (J : Journal) (name : List ℕ) (kind : Kind) (c : ChanDef) (interface : Interface) (power : ℕ) (old new : Core)
+    (row row' : List (Option Seen)) → Keeps db old J → HasStart db J name kind c interface power
+    → ((x : Iface) → Keeps db old J → IsInterfaceOf J x interface → EachMayFollow db (started x.index c power ∷ J) → Keeps db new (started x.index c power ∷ J))
     → OneGoes interface.radio (DriverTakes (put_on_air (entry interface.index c power))) row row'
-    → Starts db J name kind c power (record core { interfaces = interfaces; radios = radios }) row row'
-starts_done db J name kind c interface power core interfaces radios row row' s has operated changed told =
+    → Starts db J name kind c power new row row'
+starts_done db J name kind c interface power old new row row' s has operated told =
     let x = has.iface in
     let there = named_listed J name x has.is_named in
-    let due : EachMayFollow db (started x.index c power ∷ J) =
-    (((has.no_check, rw (indexed_listed db J x s.due there) (inl has.no_operation)), (has.granted).valid, has.small), s.due) in
     record {
       iface = x;
       is_named = has.is_named;
       free = start_free db J name kind c interface power has;
       granted = has.granted;
       power_is = power_of_granted db J x c power has.granted;
-      stands = stands_after_start db J core x c power interfaces radios s due (operated x has.interface_is there due) there (has.granted).permitted
-          (changed ∙ ap (λ (p : Interface). map (with_operation p.index (Some (record { chan = c; power_mbm = power }))) core.interfaces) has.interface_is);
+      keeps = operated x s (interface_of_kept J x interface there has.interface_is) ((may_start db J x kind s.due there has.startable, (has.granted).valid, has.small), s.due);
       told = subst (λ (p : Interface). OneGoes p.radio (DriverTakes (put_on_air (entry p.index c power))) row row') has.interface_is told;
     }
 
 pub falls_done : (db : List Domain) (J : Journal) (name : List ℕ) (kind : Kind) (c : ChanDef) (interface : Interface) (power : ℕ) (core : Core)
-    (row row' : List (Option Seen)) → HasStart db J name kind c interface power → OneGoes interface.radio DriverFails row row' → Falls db J name kind c core core row row'
+    (row row' : List (Option Seen)) → HasStart db J name kind c interface power → OneGoes interface.radio DriverFails row row' → Falls J name (StartCauses db J name kind c) core core row row'
 falls_done db J name kind c interface power core row row' has told = record {
   iface = has.iface;
   is_named = has.is_named;
@@ -110,17 +104,17 @@ falls_done db J name kind c interface power core row row' has told = record {
 
 -- ---- stops
 
-pub stops_done : (db : List Domain) (J : Journal) (name : List ℕ) (kind : Kind) (interface : Interface) (core : Core) (interfaces : List Interface) (radios : List RadioPlace)
-    (row row' : List (Option Seen)) → StandsFor db core J → HasStop J name kind interface
-    → ((x : Iface) → interface ≡ kept J x → Contains (ifaces_of J) x → EachMayFollow db (stopped x.index ∷ J) → KeepsRadios db (stopped x.index ∷ J) radios) → interfaces ≡ map (with_operation interface.index None) core.interfaces
-    → OneGoes interface.radio (DriverTakes (taken_off interface.index)) row row' → Stops db J name kind (record core { interfaces = interfaces; radios = radios }) row row'
-stops_done db J name kind interface core interfaces radios row row' s has operated changed told =
+pub stops_done : (db : List Domain) (J : Journal) (name : List ℕ) (kind : Kind) (interface : Interface) (old new : Core)
+    (row row' : List (Option Seen)) → Keeps db old J → HasStop J name kind interface
+    → ((x : Iface) → Keeps db old J → MayFollow db J (stopped interface.index) → IsInterfaceOf J x interface → Keeps db new (stopped interface.index ∷ J))
+    → OneGoes interface.radio (DriverTakes (taken_off interface.index)) row row' → Stops db J name kind new row row'
+stops_done db J name kind interface old new row row' s has committed told =
     let x = has.iface in
-    let due : EachMayFollow db (stopped x.index ∷ J) = (rw has.operates refl, s.due) in
+    let is = interface_of_kept J x interface (named_listed J name x has.is_named) has.interface_is in
     record {
       iface = x;
       is_named = has.is_named;
       free = stop_free J name kind x has.operation has.is_named has.right_kind has.operates;
-      stands = stands_after_stop db J core x.index interfaces radios s due (operated x has.interface_is (named_listed J name x has.is_named) due) (changed ∙ ap (λ (p : Interface). map (with_operation p.index None) core.interfaces) has.interface_is);
+      keeps = subst (λ i. Keeps db new (stopped i ∷ J)) is.index (committed x s (subst (λ i. IsSome (operation_of J i)) (sym is.index) (ap is_some has.operates)) is);
       told = subst (λ (p : Interface). OneGoes p.radio (DriverTakes (taken_off p.index)) row row') has.interface_is told;
     }

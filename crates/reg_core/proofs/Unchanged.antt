@@ -27,22 +27,8 @@ use Rattle.reg_core.specs.Slots.{slot_of}
 use Rattle.reg_core.specs.declared.radio.Radio.{Radio}
 use Rattle.reg_core.specs.declared.radio.RadioPlace.{RadioPlace}
 use Rattle.reg_core.specs.declared.radio.RadioPlace.TheVariants.{Free, Removed, There}
+use Rattle.reg_core.specs.inner.Sparing.{SparesRadio}
 use Rattle.reg_core.proofs.NewRadios.{applies_by-same}
-
--- the fact speaks neither of the radio nor of all radios
-abbrev pub SparesRadio : Journal → ℕ → Fact → Type 0
-SparesRadio J r (moment_is moment) = ⊥
-SparesRadio J r (hinted (Treated hint)) = ⊥
-SparesRadio J r (hinted (Own q a)) = (r == q) ≡ false
-SparesRadio J r (radio_added q profile) = (r == q) ≡ false
-SparesRadio J r (radio_removed q) = (r == q) ≡ false
-SparesRadio J r (rules_are q rules) = (r == q) ≡ false
-SparesRadio J r (radar_met q chan) = (r == q) ≡ false
-SparesRadio J r (started i chan power) = (is_on J i r && sends_first J i) ≡ false
-SparesRadio J r (stopped i) = (is_on J i r && sends_first J i) ≡ false
-SparesRadio J r (check_begun i chan length) = is_on J i r ≡ false
-SparesRadio J r (check_dropped i) = is_on J i r ≡ false
-SparesRadio J r f = Unit {0}
 
 -- ---- what the journal says of the radio
 

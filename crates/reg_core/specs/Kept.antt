@@ -1,6 +1,7 @@
 -- What the core keeps of a journal: of each interface, of each radio, and in all.
 use Rattle.std.specs.Prelude.{◌≡◌, ℕ, ◌<◌, true, false, List, map, Option, Some, None, slice_index_or}
 use Rattle.std.specs.Option.{option_map, option_to_list}
+use Rattle.rule_tables.specs.Databases.{IsDb}
 use Rattle.rule_tables.specs.declared.domain.Domain.{Domain}
 use Rattle.rule_intersect.specs.Tables.{IsTableOf}
 use Rattle.chan_flags.specs.Profiles.{IsProfile}
@@ -73,11 +74,9 @@ KeepsRadios db J places = (r : ℕ) → r < 8 → KeepsPlace db J r (slice_index
 
 -- ---- the core
 
--- The core of the database stands for the journal: each fact of it came where it might, what the interfaces do may go on, and
--- each part of the core is what the journal says.
-pub record StandsFor (db : List Domain) (core : Core) (J : Journal) : Type 0 where
+-- Each part of the core is what the journal says, whose facts came each where it might.
+pub record Keeps (db : List Domain) (core : Core) (J : Journal) : Type 0 where
   pub due : EachMayFollow db J
-  pub settled : AreSettled db J
   pub domains : core.domains ≡ db
   pub clock : core.clock ≡ now_of J
   pub indoor : core.indoor ≡ is_indoor J
@@ -86,3 +85,9 @@ pub record StandsFor (db : List Domain) (core : Core) (J : Journal) : Type 0 whe
   pub global : IsTableOf (global_domains db J) core.global
   pub radios : KeepsRadios db J core.radios
   pub interfaces : core.interfaces ≡ interfaces_of J
+
+-- The core of the database stands for the journal: it keeps what the journal says, and what the interfaces do may go on.
+pub record StandsFor (db : List Domain) (core : Core) (J : Journal) : Type 0 where
+  pub is_db : IsDb db
+  pub keeps : Keeps db core J
+  pub settled : AreSettled db J

@@ -1,19 +1,11 @@
 -- What a step of the core is.
-use Rattle.std.specs.Prelude.{◌≡◌, ℕ, ◌⊎◌, Bool, true, false, List, [], Option, Contains, IsSomeAnd, IsTrue}
+use Rattle.std.specs.Prelude.{◌≡◌, ℕ, ◌⊎◌, Bool, true, false, List, [], Option, IsSomeAnd, IsTrue}
 use Rattle.std.specs.Option.{option_map}
 use Rattle.rule_tables.specs.declared.domain.Domain.{Domain}
-use Rattle.chan_def.specs.declared.kind.Kind.TheVariants.{Ap}
 use Rattle.radio_drv.specs.Seen.{Seen}
-use Rattle.reg_hints.specs.Table.{Treated, treatment}
-use Rattle.reg_hints.specs.declared.hint.Hint.TheVariants.{User}
-use Rattle.reg_hints.specs.declared.hint.Treatment.{Treatment}
-use Rattle.reg_hints.specs.declared.hint.Treatment.TheVariants.{Replace, Intersect}
-use Rattle.reg_journal.specs.Applicable.{hints_of}
-use Rattle.reg_journal.specs.Causes.{IsFree}
 use Rattle.reg_journal.specs.Facts.{Journal}
 use Rattle.reg_journal.specs.Granted.{IsGranted}
-use Rattle.reg_journal.specs.Present.{Iface, ifaces_of, named}
-use Rattle.reg_journal.specs.Refusals.{HintCauses, IsInUse}
+use Rattle.reg_journal.specs.Present.{named}
 use Rattle.reg_journal.specs.Replies.{Steps}
 use Rattle.reg_journal.specs.declared.refusal.Refusal.{Refusal}
 use Rattle.reg_journal.specs.declared.refusal.Refusal.TheVariants.{DriverFailed, NotBuilt}
@@ -22,7 +14,7 @@ use Rattle.reg_journal.specs.declared.reply.Answer.TheVariants.{Refused, Started
 use Rattle.reg_journal.specs.declared.reply.Reply.{Reply}
 use Rattle.reg_journal.specs.declared.reply.Reply.TheVariants.{Plain}
 use Rattle.reg_journal.specs.declared.request.Request.{Request}
-use Rattle.reg_journal.specs.declared.request.Request.TheVariants.{At, RadioAdd, UserHint, IfaceAdd, Start, Stop}
+use Rattle.reg_journal.specs.declared.request.Request.TheVariants.{At, RadioAdd, Element as HeardElement, UserHint, Radar, Indoor, IfaceAdd, Start, Stop, Check}
 use Rattle.reg_core.specs.DriverRows.{AllGoOn, AreDriven, Follows, HasFailed, driver_at}
 use Rattle.reg_core.specs.Kept.{StandsFor}
 use Rattle.reg_core.specs.declared.core_state.Core.{Core}
@@ -74,26 +66,18 @@ pub record OneStep (db : List Domain) (J : Journal) (q : Request) (old new : Cor
 
 -- ---- what is built
 
--- some interface has an operation or a running check
-abbrev pub SomeRuns : Journal → Type 0
-SomeRuns J = (x : Iface) × Contains (ifaces_of J) x × IsInUse J x
-
--- a hint that is treated so changes the global list
-abbrev pub changes_list : Treatment → Bool
-changes_list Replace = true
-changes_list Intersect = true
-changes_list treatment = false
-
--- The request is one of those that are answered by now. A hint that would be taken, and would change the global list, isn't where
--- something runs that it might end.
+-- The request is one of those that are answered by now.
 abbrev pub IsBuilt : List Domain → Journal → Request → Type 0
 IsBuilt db J (At moment) = Unit {0}
 IsBuilt db J (RadioAdd r profile) = Unit {0}
-IsBuilt db J (UserHint a) =
-    IsFree (HintCauses db J a (Treated (User a))) → IsTrue (changes_list (treatment (hints_of J) (User a))) → SomeRuns J → ⊥
+IsBuilt db J (HeardElement r body) = Unit {0}
+IsBuilt db J (UserHint a) = Unit {0}
+IsBuilt db J (Radar r c) = Unit {0}
+IsBuilt db J (Indoor on) = Unit {0}
 IsBuilt db J (IfaceAdd r name kind) = Unit {0}
-IsBuilt db J (Start name Ap c) = Unit {0}
-IsBuilt db J (Stop name Ap) = Unit {0}
+IsBuilt db J (Start name kind c) = Unit {0}
+IsBuilt db J (Stop name kind) = Unit {0}
+IsBuilt db J (Check name c) = Unit {0}
 IsBuilt db J q = ⊥
 
 -- the request isn't answered yet: nothing changes

@@ -3,6 +3,7 @@ use Rattle.std.specs.Prelude.{◌≡◌, ℕ, ◌≤◌, false, List, Option, So
 use Rattle.reg_base.specs.Causes.{Rose}
 use Rattle.radio_drv.specs.Air.{HasPlace}
 use Rattle.radio_drv.specs.Seen.{Seen}
+use Rattle.radio_drv.specs.declared.on_air.CheckTold.{CheckTold}
 use Rattle.radio_drv.specs.declared.on_air.OnAir.{OnAir}
 use Rattle.reg_core.specs.DriverRows.{driver_at}
 
@@ -40,6 +41,19 @@ DriverTakes change None (Some s') = ⊥
 abbrev pub DriverFails : Option Seen → Option Seen → Type 0
 DriverFails (Some s) (Some s') = Falters s s'
 DriverFails o o' = ⊥
+
+-- the check is the one last told; what it has on air stays
+pub record HearsCheck (check : CheckTold) (s s' : Seen) : Type 0 where
+  pub air : s'.air ≡ s.air
+  pub told : s'.told ≡ Some check
+  pub later : s.count ≤ s'.count
+  pub steady : s'.steady ≡ s.steady
+  pub never : IsTrue s.steady → s'.count ≡ s.count
+
+-- the driver of a place is told of the check
+abbrev pub DriverHears : CheckTold → Option Seen → Option Seen → Type 0
+DriverHears check (Some s) (Some s') = HearsCheck check s s'
+DriverHears check o o' = ⊥
 
 -- the place of the radio goes so, and no other driver hears of it
 pub record OneGoes (radio : ℕ) (how : Option Seen → Option Seen → Type 0) (row row' : List (Option Seen)) : Type 0 where

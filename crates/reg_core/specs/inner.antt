@@ -1,16 +1,24 @@
 -- What private functions alone cite.
+pub mod BookCalls
+pub mod Changes
+pub mod Checking
 pub mod Contexts
 pub mod Deciding
 pub mod Demands
 pub mod Hinting
-pub mod InUse
+pub mod Elements
+pub mod HintsTaken
 pub mod Judging
 pub mod Lists
 pub mod Making
 pub mod Operating
 pub mod Outcomes
 pub mod Interfaces
+pub mod Reading
 pub mod RegionSoFar
+pub mod Repowering
+pub mod Sparing
 pub mod Starting
+pub mod Sweeping
 pub mod TableRules
 pub mod Worlds

@@ -7,7 +7,7 @@ ghost use Rattle.reg_journal.specs.Facts.{Journal, moment_is};
 ghost use Rattle.reg_journal.specs.Present.{now_of};
 ghost use Rattle.reg_journal.specs.Refusals.{MomentCauses};
 ghost use Rattle.reg_core.specs.inner.Deciding.{Declines, TakesFact};
-ghost use Rattle.reg_core.specs.Kept.{StandsFor};
+ghost use Rattle.reg_core.specs.Kept.{Keeps};
 
 use crate::core_state::Core;
 use crate::declined::Declined;
@@ -34,7 +34,7 @@ fn moment_refusal(clock: u64, now: u64) -> Option<Refusal>
 impl Core {
     /// It is `now`, in ms.
     pub(crate) fn at(&mut self, now: u64) -> Result<(), Declined>
-        ensures taken { (db : List Domain) (J : Journal) → StandsFor db self.old J → MatchResult result
+        ensures taken { (db : List Domain) (J : Journal) → Keeps db self.old J → MatchResult result
             (λ _. TakesFact db J (MomentCauses J now) (moment_is now) self.new)
             (Declines (MomentCauses J now) ⊥ self.old self.new) }
     {

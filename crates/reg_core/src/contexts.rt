@@ -25,7 +25,7 @@ pub(crate) fn channel_of(interface: &Interface, book: &DfsBook) -> Option<ChanDe
 }
 
 /// The channel of the interface's running check.
-fn checked_channel(book: &DfsBook, interface: &Interface) -> Option<ChanDef>
+pub(crate) fn checked_channel(book: &DfsBook, interface: &Interface) -> Option<ChanDef>
     ensures { (db : List Domain) (J : Journal) (x : Iface) → IsOf db J x book.now interface.now → result ≡ checked_channel J x }
 {
     match book.running(interface.slot) {

@@ -1,12 +1,12 @@
 //! The drivers of the radios.
 
-ghost use Rattle.std.specs.Prelude.{◌≡◌, List, Option, length, map, MatchResult};
+ghost use Rattle.std.specs.Prelude.{◌≡◌, List, Option, IsSome, length, map, MatchResult};
 ghost use Rattle.std.specs.Option.{option_map};
-ghost use Rattle.radio_drv.specs.Air.{started, stopped};
+ghost use Rattle.radio_drv.specs.Air.{powered, started, stopped};
 ghost use Rattle.radio_drv.specs.Seen.{Seen, seen as seen_one};
 ghost use Rattle.reg_journal.specs.OnAir.{entry};
 ghost use Rattle.reg_core.specs.DriverRows.{driver_at};
-ghost use Rattle.reg_core.specs.Told.{DriverFails, HasRoom, OneGoes, DriverTakes};
+ghost use Rattle.reg_core.specs.Told.{DriverFails, DriverHears, HasRoom, OneGoes, DriverTakes};
 
 use chan_def::ChanDef;
 use radio_drv::{Driver, DriverFailed, IfIndex};
@@ -38,6 +38,28 @@ pub trait DriverRow {
     fn stop(&mut self, radio: RadioNo, iface: IfIndex)
         requires eight { length (seen self.old) ≡ 8 }
         ensures told { OneGoes radio (DriverTakes (stopped iface)) (seen self.old) (seen self.new) };
+
+    /// Tells the radio's driver to check the channel for radar (CAC, `start_radar_detection`), for so many ms.
+    /// `DriverFailed` leaves the check that was told before, and comes only where the count of the driver's
+    /// faults rose.
+    fn begin_check(
+        &mut self,
+        radio: RadioNo,
+        iface: IfIndex,
+        chan: ChanDef,
+        length_ms: u32,
+    ) -> Result<(), DriverFailed>
+        requires eight { length (seen self.old) ≡ 8 }
+        requires there { IsSome (driver_at (seen self.old) radio) }
+        ensures told { MatchResult result
+            (λ _. OneGoes radio (DriverHears (record { iface = iface; chan = chan; length_ms = length_ms })) (seen self.old) (seen self.new))
+            (λ _. OneGoes radio DriverFails (seen self.old) (seen self.new)) };
+
+    /// Tells the radio's driver that the interface, if it is on air, goes on with this power, in mBm
+    /// (`set_tx_power`).
+    fn set_power(&mut self, radio: RadioNo, iface: IfIndex, power_mbm: u16)
+        requires eight { length (seen self.old) ≡ 8 }
+        ensures told { OneGoes radio (DriverTakes (powered iface power_mbm)) (seen self.old) (seen self.new) };
 }
 
 impl DriverRow for Drivers {
@@ -59,6 +81,23 @@ impl DriverRow for Drivers {
 
     fn stop(&mut self, radio: RadioNo, iface: IfIndex) {
         stop_on(&mut self[radio.get() as usize], iface);
+    }
+
+    fn begin_check(
+        &mut self,
+        radio: RadioNo,
+        iface: IfIndex,
+        chan: ChanDef,
+        length_ms: u32,
+    ) -> Result<(), DriverFailed> {
+        match begin_on(&mut self[radio.get() as usize], iface, chan, length_ms) {
+            Ok(()) => Ok(()),
+            Err(failed) => Err(failed),
+        }
+    }
+
+    fn set_power(&mut self, radio: RadioNo, iface: IfIndex, power_mbm: u16) {
+        power_on(&mut self[radio.get() as usize], iface, power_mbm);
     }
 }
 
@@ -92,5 +131,38 @@ fn stop_on(place: &mut Option<Box<dyn Driver>>, iface: IfIndex)
 {
     if let Some(driver) = place {
         driver.stop(iface);
+    }
+}
+
+/// Tells the driver of a place to give the interface this power, in mBm.
+fn power_on(place: &mut Option<Box<dyn Driver>>, iface: IfIndex, power_mbm: u16)
+    ensures told { DriverTakes (powered iface power_mbm)
+        (option_map (λ b. seen_one (on_air b) (told b) (count b) (steady b)) place.old)
+        (option_map (λ b. seen_one (on_air b) (told b) (count b) (steady b)) place.new) }
+{
+    if let Some(driver) = place {
+        driver.set_power(iface, power_mbm);
+    }
+}
+
+/// Tells the driver of a place to check the channel for radar.
+fn begin_on(
+    place: &mut Option<Box<dyn Driver>>,
+    iface: IfIndex,
+    chan: ChanDef,
+    length_ms: u32,
+) -> Result<(), DriverFailed>
+    requires there { IsSome place.old }
+    ensures told { MatchResult result
+        (λ _. DriverHears (record { iface = iface; chan = chan; length_ms = length_ms })
+        (option_map (λ b. seen_one (on_air b) (told b) (count b) (steady b)) place.old)
+        (option_map (λ b. seen_one (on_air b) (told b) (count b) (steady b)) place.new))
+        (λ _. DriverFails
+        (option_map (λ b. seen_one (on_air b) (told b) (count b) (steady b)) place.old)
+        (option_map (λ b. seen_one (on_air b) (told b) (count b) (steady b)) place.new)) }
+{
+    match place {
+        Some(driver) => driver.begin_check(iface, chan, length_ms),
+        None => unreachable!(),
     }
 }

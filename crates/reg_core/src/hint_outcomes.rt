@@ -10,7 +10,7 @@ ghost use Rattle.rule_intersect.specs.declared.fault.ResolveFault.TheVariants.{O
 ghost use Rattle.reg_core.specs.inner.Deciding.{IsCore, IsReason};
 ghost use Rattle.reg_core.specs.declared.declined.Declined.TheVariants.{OutOfMemory as NoMemory};
 ghost use Rattle.reg_core.specs.inner.Hinting.{AreNewTables, IsRowsFault, lists_after};
-ghost use Rattle.reg_core.specs.Kept.{KeepsRadios, StandsFor};
+ghost use Rattle.reg_core.specs.Kept.{Keeps, KeepsRadios};
 ghost use Rattle.reg_core.specs.inner.Lists.{global_by};
 ghost use Rattle.reg_core.specs.inner.Outcomes.{AreHintTables, IsOutcome};
 
@@ -77,9 +77,9 @@ impl Core {
     pub(crate) fn hint_outcome(&self, alpha2: Alpha2, hint: &Hint) -> Result<HintOutcome, Declined>
         requires core { IsCore self.now }
         requires code { alpha2 ≡ hinted_code hint.now }
-        ensures { (db : List Domain) (J : Journal) → StandsFor db self.now J → MatchResult result
-            (IsOutcome db J alpha2 hint.now self.now.radios)
-            (IsReason (HintCauses db J alpha2 (Treated hint.now)) ⊥) }
+        ensures { (db : List Domain) (J : Journal) → Keeps db self.now J → MatchResult result
+            (IsOutcome db J hint.now self.now.radios)
+            (IsReason (HintCauses db J (Treated hint.now)) ⊥) }
     {
         if self.domains.find(alpha2).is_none() {
             return Err(Declined::Refused(Refusal::NoCountry(alpha2)));

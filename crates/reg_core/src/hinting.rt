@@ -1,12 +1,13 @@
 //! What a hint that the table of hints treats gives to the radios: first the new tables, which may be
 //! refused, and then, where all are there, the change.
 
-ghost use Rattle.std.specs.Prelude.{◌≡◌, ◌∷◌, ℕ, IfErr, IfOk, MatchResult, length};
+ghost use Rattle.std.specs.Prelude.{◌≡◌, ◌∷◌, ◌<◌, ℕ, false, IfErr, IfOk, MatchResult, length, slice_index_or};
 ghost use Rattle.reg_hints.specs.Table.{Treated};
 ghost use Rattle.reg_journal.specs.Applicable.{hints_of};
 ghost use Rattle.reg_journal.specs.Facts.{Journal, hinted};
-ghost use Rattle.reg_core.specs.inner.Hinting.{AreNewTables, IsNewTable, IsNewTableFault, IsRowsFault, driver_after, lists_after};
+ghost use Rattle.reg_core.specs.inner.Hinting.{AreNewTables, IsNewTable, IsNewTableFault, IsRowsFault, driver_after, lists_after, place_moved};
 ghost use Rattle.reg_core.specs.Kept.{KeepsRadios, KeepsPlace};
+ghost use Rattle.reg_core.specs.declared.radio.RadioPlace.TheVariants.{Free};
 
 use crate::domains::Domains;
 use crate::radio::RadioPlace;
@@ -71,6 +72,46 @@ pub(crate) fn new_tables(
         tables.push(new_table(alloc, domains, after, hint, number, place)?)?;
     }
     Ok(tables)
+}
+
+/// Whether the hint, which led from the hints `before` to the hints `after`, changes the region of the
+/// place's radio.
+fn is_place_moved(
+    place: &RadioPlace,
+    number: usize,
+    domains: &Domains,
+    before: &Hints,
+    after: &Hints,
+    hint: &Hint,
+) -> bool
+    ensures { result ≡ place_moved domains.now before.now after.now hint.now number place.now }
+{
+    let RadioPlace::There(radio) = place else {
+        return false;
+    };
+    let self_managed = radio.chans.profile().self_managed();
+    let driver = driver_after(hint, number, radio.driver);
+    let was = region_of(domains, before, self_managed, radio.driver);
+    let is = region_of(domains, after, self_managed, driver);
+    is_moved(was, is)
+}
+
+/// Of which radios, by number, the hint changes the region.
+pub(crate) fn moved_by(
+    radios: &[RadioPlace],
+    domains: &Domains,
+    before: &Hints,
+    after: &Hints,
+    hint: &Hint,
+) -> [bool; 8]
+    requires eight { length radios.now ≡ 8 }
+    ensures { (r : ℕ) → r < 8 → slice_index_or result r false ≡ place_moved domains.now before.now after.now hint.now r (slice_index_or radios.now r Free) }
+{
+    let mut moved = [false; 8];
+    for (number, place) in radios.iter().enumerate() {
+        moved[number] = is_place_moved(place, number, domains, before, after, hint);
+    }
+    moved
 }
 
 /// The hint came, and leaves the place with this table.

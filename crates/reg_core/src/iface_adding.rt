@@ -9,7 +9,7 @@ ghost use Rattle.reg_journal.specs.Facts.{Journal, made};
 ghost use Rattle.reg_journal.specs.Present.{made_of};
 ghost use Rattle.reg_journal.specs.Refusals.{IfaceAddCauses};
 ghost use Rattle.reg_core.specs.inner.Deciding.{Declines, IsCore, TakesFact};
-ghost use Rattle.reg_core.specs.Kept.{StandsFor};
+ghost use Rattle.reg_core.specs.Kept.{Keeps};
 
 use crate::core_state::Core;
 use crate::declined::Declined;
@@ -27,11 +27,13 @@ const MOST_ON_RADIO: usize = 8;
 impl Core {
     /// Why the interface can't come to the radio.
     fn iface_refusal(&self, radio: RadioNo, name: &Name) -> Option<Refusal>
-        ensures due { (db : List Domain) (J : Journal) → StandsFor db self.now J
+        ensures due { (db : List Domain) (J : Journal) → Keeps db self.now J
             → MatchOption result ((kind : Kind) → MayFollow db J (made (made_of J + 1) name.now radio kind)) (λ _. Unit {0}) }
-        ensures first { (db : List Domain) (J : Journal) → StandsFor db self.now J
+        ensures first { (db : List Domain) (J : Journal) → Keeps db self.now J
             → MatchOption result (IsFree (IfaceAddCauses J radio name.now)) (IfaceAddCauses J radio name.now) }
     {
+        // That the name is one of its type is told by reading it.
+        let _bytes = name.as_bytes();
         let Some(_radio) = radio_at(&self.radios, radio) else {
             return Some(Refusal::NoRadio(radio));
         };
@@ -53,7 +55,7 @@ impl Core {
         kind: Kind,
     ) -> Result<(), Declined>
         requires core { IsCore self.old }
-        ensures taken { (db : List Domain) (J : Journal) → StandsFor db self.old J → MatchResult result
+        ensures taken { (db : List Domain) (J : Journal) → Keeps db self.old J → MatchResult result
             (λ _. TakesFact db J (IfaceAddCauses J radio name) (made (made_of J + 1) name radio kind) self.new)
             (Declines (IfaceAddCauses J radio name) ⊥ self.old self.new) }
     {

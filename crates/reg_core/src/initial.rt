@@ -36,6 +36,7 @@ impl Core {
     pub fn new(alloc: Global, db: Db) -> Result<Core, OutOfMemory>
         ensures stands { IfOk result (λ core. StandsFor db core []) }
     {
+        let _domains = db.as_slice();
         let domains = Domains::new(alloc, db)?;
         let global = initial_table(alloc, &domains)?;
         Ok(Core {

@@ -2,9 +2,9 @@
 
 ghost use Rattle.std.specs.Prelude.{◌≡◌, ◌&&◌, find, not, ◌==◌, ◌↔◌, ◌<◌, ◌≤◌, ℕ, Bool, [], ◌∷◌, ◌++◌, length, map, filter, unwrap_or, IfSome, IsTrue, OnOk, OnErr};
 ghost use Rattle.std.specs.List.{list_any};
-ghost use Rattle.std.specs.Option.{option_copied};
+ghost use Rattle.std.specs.Option.{option_copied, option_map};
 ghost use Rattle.reg_core.specs.Slots.{numbers};
-ghost use Rattle.reg_core.specs.inner.Interfaces.{is_on_radio, interface_named, interfaces_on, slot_on, with_operation};
+ghost use Rattle.reg_core.specs.inner.Interfaces.{is_on_radio, interface_named, interfaces_on, running_with_power, slot_on, with_operation, with_running_power};
 ghost use Rattle.reg_journal.specs.Names.{is_same_name};
 
 use chan_def::{ChanDef, Kind};
@@ -60,6 +60,32 @@ impl Interface {
             self
         }
     }
+
+    /// The interface whose operation, if it has one, goes on with this power, in mBm, where the index is
+    /// its own.
+    fn with_power(self, index: u32, power_mbm: u16) -> Interface
+        ensures { result ≡ with_running_power index power_mbm self }
+    {
+        if self.index == index {
+            let operation = repowered(self.operation, power_mbm);
+            Interface { operation, ..self }
+        } else {
+            self
+        }
+    }
+}
+
+/// The operation, if there is one, with this power, in mBm.
+fn repowered(operation: Option<Running>, power_mbm: u16) -> Option<Running>
+    ensures { result ≡ option_map (running_with_power power_mbm) operation }
+{
+    match operation {
+        Some(operation) => Some(Running {
+            power_mbm,
+            ..operation
+        }),
+        None => None,
+    }
 }
 
 /// The interfaces that are there, in order of creation.
@@ -77,6 +103,21 @@ fn set_each(interfaces: &mut [Interface], index: u32, operation: Option<Running>
 {
     for interface in interfaces.iter_mut() {
         *interface = interface.with_operation(index, operation);
+    }
+}
+
+/// Gives the operation of the interface of this index the power, in mBm.
+pub(crate) fn set_power(interfaces: &mut InterfaceList, index: u32, power_mbm: u16)
+    ensures power { interfaces.new ≡ map (with_running_power index power_mbm) interfaces.old }
+{
+    power_each(interfaces.as_mut_slice(), index, power_mbm);
+}
+
+fn power_each(interfaces: &mut [Interface], index: u32, power_mbm: u16)
+    ensures { interfaces.new ≡ map (with_running_power index power_mbm) interfaces.old }
+{
+    for interface in interfaces.iter_mut() {
+        *interface = interface.with_power(index, power_mbm);
     }
 }
 

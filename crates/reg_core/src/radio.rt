@@ -2,12 +2,12 @@
 
 ghost use Rattle.std.specs.Prelude.{◌≡◌, IfOk, map};
 
+use crate::book_call::BookCall;
 use crate::domains::{CustomRules, Domains};
 use crate::regions::{checks_last, region_of};
 use crate::tables::new_radio_table;
-use chan_def::ChanDef;
 use chan_flags::{Profile, RadioChans};
-use dfs_states::{DfsBook, IfSlot};
+use dfs_states::DfsBook;
 use reg_hints::Hints;
 use reg_lists::OutOfMemory;
 use rule_intersect::Table;
@@ -52,11 +52,8 @@ fn centres_of(alloc: Global, chans: &RadioChans) -> Result<Vec<u32>, OutOfMemory
 
 impl Radio {
     ghost use Rattle.std.specs.Prelude.{◌≡◌, ◌∷◌, ◌≤◌, ◌^◌, ℕ, List, None, Some, IfOk, IfSome, not};
-    ghost use Rattle.std.specs.Option.{option_copied};
-    ghost use Rattle.chan_def.specs.Covered.{IsValidDef};
-    ghost use Rattle.dfs_states.specs.Calls.{Operate};
     ghost use Rattle.reg_core.specs.Calls.{call_of, checks_last_on};
-    ghost use Rattle.reg_core.specs.inner.Operating.{TellsOperation};
+    ghost use Rattle.reg_core.specs.inner.BookCalls.{SpeaksToBooks, call_in};
     ghost use Rattle.freq_range.specs.declared.rule.Rule.{Rule};
     ghost use Rattle.rule_intersect.specs.Tables.{IsTableOf};
     ghost use Rattle.reg_hints.specs.Table.{Hinted};
@@ -135,13 +132,18 @@ impl Radio {
         self.table = table;
     }
 
-    /// The interface of the slot, which sends first, operates on the channel from now on, or on none.
-    pub(crate) fn operate(&mut self, slot: IfSlot, chan: Option<&ChanDef>)
-        ensures kept { (db : List Domain) (J : Journal) (r i : ℕ) (f : Fact) → KeepsRadio db J r self.old
-            → TellsOperation f i (option_copied chan.entry) → call_of db f J r ≡ Some (Operate slot (option_copied chan.entry))
-            → IfSome (option_copied chan.entry) IsValidDef → KeepsRadio db (f ∷ J) r self.new }
+    /// Its book is told this, which a fact says of it.
+    pub(crate) fn note(&mut self, call: &BookCall)
+        ensures kept { (db : List Domain) (J : Journal) (r : ℕ) (f : Fact) → KeepsRadio db J r self.old → SpeaksToBooks f
+            → call_of db f J r ≡ Some (call_in call.now) → EachMayFollow db (f ∷ J) → KeepsRadio db (f ∷ J) r self.new }
     {
-        self.book.operate(slot, chan);
+        match call {
+            BookCall::Radar(chan) => self.book.radar(chan),
+            BookCall::Begin(slot, chan, length_ms) => self.book.begin(*slot, chan, *length_ms),
+            BookCall::DropCheck(slot) => self.book.drop_check(*slot),
+            BookCall::Operate(slot, chan) => self.book.operate(*slot, Some(chan)),
+            BookCall::Rest(slot) => self.book.operate(*slot, None),
+        }
     }
 
     /// It is `now`, in ms, which isn't earlier than before.
@@ -157,10 +159,9 @@ impl Radio {
 impl RadioPlace {
     ghost use Rattle.std.specs.Prelude.{◌≡◌, ◌↔◌, ◌∷◌, ◌≤◌, ◌^◌, ℕ, Some, false, IfSome, IsTrue, List};
     ghost use Rattle.std.specs.Option.{option_copied};
-    ghost use Rattle.chan_def.specs.Covered.{IsValidDef};
-    ghost use Rattle.dfs_states.specs.Calls.{Operate};
     ghost use Rattle.reg_core.specs.Calls.{call_of};
-    ghost use Rattle.reg_core.specs.inner.Operating.{TellsOperation};
+    ghost use Rattle.reg_core.specs.inner.BookCalls.{SpeaksToBooks, call_in};
+    ghost use Rattle.reg_journal.specs.Due.{EachMayFollow};
     ghost use Rattle.rule_tables.specs.declared.domain.Domain.{Domain};
     ghost use Rattle.reg_journal.specs.Due.{MayFollow};
     ghost use Rattle.reg_journal.specs.Facts.{Fact, Journal, moment_is};
@@ -177,14 +178,13 @@ impl RadioPlace {
         }
     }
 
-    /// The interface of the slot, which sends first, operates on the channel from now on, or on none.
-    pub(crate) fn operate(&mut self, slot: IfSlot, chan: Option<&ChanDef>)
-        ensures kept { (db : List Domain) (J : Journal) (r i : ℕ) (f : Fact) → KeepsPlace db J r self.old
-            → TellsOperation f i (option_copied chan.entry) → call_of db f J r ≡ Some (Operate slot (option_copied chan.entry))
-            → IfSome (option_copied chan.entry) IsValidDef → KeepsPlace db (f ∷ J) r self.new }
+    /// The book of its radio is told this, which a fact says of it.
+    pub(crate) fn note(&mut self, call: &BookCall)
+        ensures kept { (db : List Domain) (J : Journal) (r : ℕ) (f : Fact) → KeepsPlace db J r self.old → SpeaksToBooks f
+            → call_of db f J r ≡ Some (call_in call.now) → EachMayFollow db (f ∷ J) → KeepsPlace db (f ∷ J) r self.new }
     {
         if let RadioPlace::There(radio) = self {
-            radio.operate(slot, chan);
+            radio.note(call);
         }
     }
 

@@ -6,7 +6,7 @@ ghost use Rattle.chan_flags.specs.Profiles.{IsProfile};
 ghost use Rattle.reg_journal.specs.Facts.{Journal, radio_added};
 ghost use Rattle.reg_journal.specs.Refusals.{RadioAddCauses};
 ghost use Rattle.reg_core.specs.inner.Deciding.{Declines, IsCore, TakesFact};
-ghost use Rattle.reg_core.specs.Kept.{StandsFor};
+ghost use Rattle.reg_core.specs.Kept.{Keeps};
 
 use crate::core_state::Core;
 use crate::declined::Declined;
@@ -20,7 +20,7 @@ impl Core {
     pub(crate) fn add_radio(&mut self, radio: RadioNo, profile: Profile) -> Result<(), Declined>
         requires core { IsCore self.old }
         requires profile { IsProfile profile }
-        ensures taken { (db : List Domain) (J : Journal) → StandsFor db self.old J → MatchResult result
+        ensures taken { (db : List Domain) (J : Journal) → Keeps db self.old J → MatchResult result
             (λ _. TakesFact db J (RadioAddCauses J radio) (radio_added radio profile) self.new)
             (Declines (RadioAddCauses J radio) ⊥ self.old self.new) }
     {

@@ -1,18 +1,19 @@
 //! The eight places of radios.
 
-ghost use Rattle.std.specs.Prelude.{◌≡◌, ◌∷◌, ◌≤◌, ◌^◌, ℕ, Contains, List, None, MatchOption, length, slice_index_or};
+ghost use Rattle.std.specs.Prelude.{◌≡◌, ◌==◌, ◌∷◌, ◌≤◌, ◌^◌, ℕ, List, None, Some, false, MatchOption, length, slice_index_or};
 ghost use Rattle.std.specs.Option.{option_copied};
 ghost use Rattle.rule_tables.specs.declared.domain.Domain.{Domain};
 ghost use Rattle.reg_journal.specs.Due.{EachMayFollow, MayFollow};
 ghost use Rattle.reg_journal.specs.Facts.{Fact, Journal, moment_is};
-ghost use Rattle.reg_journal.specs.Present.{Iface, ifaces_of, profile_of};
-ghost use Rattle.reg_core.specs.Kept.{KeepsRadio, KeepsRadios, kept, radio_in};
-ghost use Rattle.reg_core.specs.inner.Operating.{TellsOperation};
+ghost use Rattle.reg_journal.specs.Present.{profile_of};
+ghost use Rattle.reg_core.specs.Calls.{call_of};
+ghost use Rattle.reg_core.specs.Kept.{KeepsRadio, KeepsRadios, radio_in};
+ghost use Rattle.reg_core.specs.inner.BookCalls.{SpeaksToBooks, call_in};
+ghost use Rattle.reg_core.specs.inner.Sparing.{SparesRadio};
 ghost use Rattle.reg_core.specs.declared.radio.RadioPlace.TheVariants.{Free};
 
-use crate::interface::Interface;
+use crate::book_call::BookCall;
 use crate::radio::{Radio, RadioPlace};
-use chan_def::ChanDef;
 use reg_hints::RadioNo;
 
 /// It is `now`, in ms, for each radio.
@@ -26,19 +27,15 @@ pub(crate) fn advance_all(radios: &mut [RadioPlace], now: u64)
     }
 }
 
-/// The interface, which is one of a radio's, operates on the channel from now on, or on none. Its radio's
-/// book is told where it sends first.
-pub(crate) fn operate_at(radios: &mut [RadioPlace], interface: &Interface, chan: Option<&ChanDef>)
+/// The book of the radio is told this, which a fact says of no other radio.
+pub(crate) fn note_at(radios: &mut [RadioPlace], radio: RadioNo, call: &BookCall)
     requires eight { length radios.old ≡ 8 }
-    ensures kept { (db : List Domain) (J : Journal) (x : Iface) (f : Fact) → KeepsRadios db J radios.old
-        → interface.now ≡ kept J x → Contains (ifaces_of J) x → TellsOperation f x.index (option_copied chan.entry)
+    ensures kept { (db : List Domain) (J : Journal) (f : Fact) → KeepsRadios db J radios.old → SpeaksToBooks f
+        → call_of db f J radio ≡ Some (call_in call.now) → ((r : ℕ) → (r == radio) ≡ false → SparesRadio J r f)
         → EachMayFollow db (f ∷ J) → KeepsRadios db (f ∷ J) radios.new }
 {
-    if !interface.kind.initiates() {
-        return;
-    }
-    let place = &mut radios[interface.radio.get() as usize];
-    place.operate(interface.slot, chan);
+    let place = &mut radios[radio.get() as usize];
+    place.note(call);
 }
 
 /// The radio of this number, or `None` where it isn't there.

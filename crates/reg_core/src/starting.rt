@@ -1,24 +1,27 @@
 //! Operations that start and stop.
 
-ghost use Rattle.std.specs.Prelude.{◌≡◌, ◌≢◌, ◌↔◌, ℕ, List, Bool, IsTrue, MatchResult};
+ghost use Rattle.std.specs.Prelude.{◌≡◌, ◌≢◌, ◌↔◌, List, Bool, IsSome, IsTrue, MatchResult};
 ghost use Rattle.rule_tables.specs.declared.domain.Domain.{Domain};
 ghost use Rattle.chan_def.specs.declared.definition.ChanDef.{ChanDef};
 ghost use Rattle.chan_def.specs.declared.kind.Kind.TheVariants.{Monitor};
 ghost use Rattle.reg_journal.specs.Facts.{Journal};
-ghost use Rattle.reg_journal.specs.Refusals.{StartCauses};
+ghost use Rattle.reg_journal.specs.Present.{Iface};
+ghost use Rattle.reg_journal.specs.Refusals.{InUseFor, StartCauses};
+ghost use Rattle.reg_core.specs.inner.Contexts.{IsOf};
 ghost use Rattle.reg_core.specs.inner.Deciding.{IsCore};
-ghost use Rattle.reg_core.specs.Kept.{StandsFor};
-ghost use Rattle.reg_core.specs.inner.Starting.{HasStart, HasRestingIface, IsStart};
+ghost use Rattle.reg_core.specs.Kept.{Keeps};
+ghost use Rattle.reg_core.specs.inner.Starting.{HasFreeIface, HasStart, IsStart};
 ghost use Rattle.reg_core.specs.Stepping.{IsReady};
 
-use crate::contexts::channel_of;
+use crate::contexts::checked_channel;
 use crate::core_state::Core;
 use crate::drivers::DriverRow;
-use crate::interface::{Interface, Running, interface_named, set_operation};
+use crate::interface::{Interface, Running, interface_named};
 use crate::judge::judge;
 use crate::radio::Radio;
-use crate::radios::{operate_at, radio_at};
+use crate::radios::radio_at;
 use chan_def::{ChanDef, Kind};
+use dfs_states::DfsBook;
 use radio_drv::{IfIndex, Name};
 use reg_journal::Refusal;
 
@@ -37,13 +40,33 @@ pub(crate) fn is_same_kind(one: Kind, other: Kind) -> bool
     one == other
 }
 
+/// Whether the interface has an operation that a start as this kind doesn't replace.
+fn has_operation_for(interface: &Interface, kind: Kind) -> bool
+    ensures { IsTrue result ↔ (IsSome interface.now.operation × (kind ≢ Monitor)) }
+{
+    match interface.operation {
+        Some(_operation) => !is_same_kind(kind, Kind::Monitor),
+        None => false,
+    }
+}
+
+/// Whether the interface has a running check, or an operation that a start as this kind doesn't replace:
+/// a monitor's alone is replaced.
+pub(crate) fn is_in_use_for(interface: &Interface, book: &DfsBook, kind: Kind) -> bool
+    ensures { (db : List Domain) (J : Journal) (x : Iface) → IsOf db J x book.now interface.now → IsTrue result ↔ InUseFor J x kind }
+{
+    match checked_channel(book, interface) {
+        Some(_chan) => true,
+        None => has_operation_for(interface, kind),
+    }
+}
+
 impl Core {
-    /// The interface of this name and its radio, where it is of the kind and does nothing.
-    fn resting(&self, name: &Name, kind: Kind) -> Result<(&Interface, &Radio), Refusal>
+    /// The interface of this name and its radio, where it is of the kind and free for a start.
+    fn free_for(&self, name: &Name, kind: Kind) -> Result<(&Interface, &Radio), Refusal>
         requires core { IsCore self.now }
-        requires kind { kind ≢ Monitor }
-        ensures resting { (db : List Domain) (J : Journal) → StandsFor db self.now J → MatchResult result
-            (λ p. HasRestingIface db J name.now kind p.0.now p.1.now)
+        ensures free { (db : List Domain) (J : Journal) → Keeps db self.now J → MatchResult result
+            (λ p. HasFreeIface db J name.now kind p.0.now p.1.now)
             (λ e. (c : ChanDef) (failed : Bool) → StartCauses db J name.now kind c failed e) }
     {
         let Some(interface) = interface_named(self.interfaces.as_slice(), name) else {
@@ -55,7 +78,7 @@ impl Core {
         let Some(radio) = radio_at(&self.radios, interface.radio) else {
             unreachable!();
         };
-        if let Some(_chan) = channel_of(interface, &radio.book) {
+        if is_in_use_for(interface, &radio.book, kind) {
             return Err(Refusal::Busy);
         }
         Ok((interface, radio))
@@ -70,12 +93,11 @@ impl Core {
         chan: &ChanDef,
     ) -> Result<(Interface, u16), Refusal>
         requires core { IsCore self.now }
-        requires kind { kind ≢ Monitor }
-        ensures start { (db : List Domain) (J : Journal) → StandsFor db self.now J → MatchResult result
+        ensures start { (db : List Domain) (J : Journal) → Keeps db self.now J → MatchResult result
             (λ p. HasStart db J name.now kind chan.now p.0 p.1)
             (λ e. (failed : Bool) → StartCauses db J name.now kind chan.now failed e) }
     {
-        let (interface, radio) = self.resting(name, kind)?;
+        let (interface, radio) = self.free_for(name, kind)?;
         if !chan.valid() {
             return Err(Refusal::BadChannel);
         }
@@ -92,7 +114,7 @@ impl Core {
     }
 
     /// The interface of this name starts to operate on the channel, with the power in mBm that is answered
-    /// (`nl80211_start_ap`). Its driver is told.
+    /// (`nl80211_start_ap` and its like). Its driver is told.
     pub(crate) fn start<D: DriverRow>(
         &mut self,
         name: &Name,
@@ -101,8 +123,7 @@ impl Core {
         drivers: &mut D,
     ) -> Result<u16, StartFault>
         requires ready { IsReady self.old (D.seen drivers.old) }
-        requires kind { kind ≢ Monitor }
-        ensures start { (db : List Domain) (J : Journal) → StandsFor db self.old J → IsStart db J name.now kind chan.now self.old self.new
+        ensures start { (db : List Domain) (J : Journal) → Keeps db self.old J → IsStart db J name.now kind chan.now self.old self.new
             (D.seen drivers.old) (D.seen drivers.new) result }
     {
         let (interface, power_mbm) = match self.startable(name, kind, chan) {
@@ -115,8 +136,7 @@ impl Core {
                     chan: *chan,
                     power_mbm,
                 };
-                operate_at(&mut self.radios, &interface, Some(chan));
-                set_operation(&mut self.interfaces, interface.index, Some(operation));
+                self.operate(&interface, Some(operation));
                 Ok(power_mbm)
             }
             Err(_failed) => Err(StartFault::Driver),

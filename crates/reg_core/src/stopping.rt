@@ -4,23 +4,24 @@ ghost use Rattle.std.specs.Prelude.{◌≡◌, List, MatchResult};
 ghost use Rattle.rule_tables.specs.declared.domain.Domain.{Domain};
 ghost use Rattle.reg_journal.specs.Facts.{Journal};
 ghost use Rattle.reg_journal.specs.Refusals.{StopCauses};
-ghost use Rattle.reg_core.specs.Kept.{StandsFor};
+ghost use Rattle.reg_core.specs.Kept.{Keeps};
 ghost use Rattle.reg_core.specs.inner.Starting.{HasStop, IsStop};
 ghost use Rattle.reg_core.specs.Stepping.{IsReady};
 
+use crate::change::Change;
+use crate::commit::tell;
 use crate::core_state::Core;
 use crate::drivers::DriverRow;
-use crate::interface::{Interface, interface_named, set_operation};
-use crate::radios::operate_at;
+use crate::interface::{Interface, interface_named};
 use crate::starting::is_same_kind;
 use chan_def::Kind;
-use radio_drv::{IfIndex, Name};
+use radio_drv::Name;
 use reg_journal::Refusal;
 
 impl Core {
     /// The interface of this name, where it is of the kind and operates.
     fn operating(&self, name: &Name, kind: Kind) -> Result<Interface, Refusal>
-        ensures stop { (db : List Domain) (J : Journal) → StandsFor db self.now J
+        ensures stop { (db : List Domain) (J : Journal) → Keeps db self.now J
             → MatchResult result (HasStop J name.now kind) (StopCauses J name.now kind) }
     {
         let Some(interface) = interface_named(self.interfaces.as_slice(), name) else {
@@ -43,13 +44,13 @@ impl Core {
         drivers: &mut D,
     ) -> Result<(), Refusal>
         requires ready { IsReady self.old (D.seen drivers.old) }
-        ensures stop { (db : List Domain) (J : Journal) → StandsFor db self.old J → IsStop db J name.now kind self.old self.new
+        ensures stop { (db : List Domain) (J : Journal) → Keeps db self.old J → IsStop db J name.now kind self.old self.new
             (D.seen drivers.old) (D.seen drivers.new) result }
     {
         let interface = self.operating(name, kind)?;
-        drivers.stop(interface.radio, IfIndex(interface.index));
-        operate_at(&mut self.radios, &interface, None);
-        set_operation(&mut self.interfaces, interface.index, None);
+        let change = Change::Stopped(interface);
+        tell(drivers, &change);
+        self.commit(&change);
         Ok(())
     }
 }

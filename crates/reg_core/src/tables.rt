@@ -107,7 +107,7 @@ pub(crate) fn initial_table(alloc: Global, domains: &Domains) -> Result<Table, O
 }
 
 /// The domain of a radio's custom rules, where it has some.
-fn custom_of(custom: Option<&CustomRules>) -> Option<&Domain>
+pub(crate) fn custom_of(custom: Option<&CustomRules>) -> Option<&Domain>
     ensures domain { option_copied result ≡ option_copied custom.entry }
     ensures rules { IfSome result (λ d. AreTableRules d.now.rules) }
 {

@@ -9,21 +9,21 @@ use Rattle.reg_journal.specs.declared.refusal.Refusal.TheVariants.{NotBuilt}
 use Rattle.reg_journal.specs.declared.reply.Answer.TheVariants.{Refused as RefusedAnswer}
 use Rattle.reg_journal.specs.declared.reply.Reply.{Reply}
 use Rattle.reg_journal.specs.declared.reply.Reply.TheVariants.{Plain}
-use Rattle.reg_core.specs.Kept.{StandsFor}
+use Rattle.reg_core.specs.Kept.{Keeps}
 use Rattle.reg_core.specs.declared.core_state.Core.{Core}
 use Rattle.reg_core.specs.declared.declined.Declined.{Declined}
 use Rattle.reg_core.specs.declared.declined.Declined.TheVariants.{Refused, PutOff, OutOfMemory}
 
--- the core stands for some journal
+-- the core keeps some journal
 pub record IsCore (core : Core) : Type 0 where
   pub db : List Domain
   pub journal : Journal
-  pub stands : StandsFor db core journal
+  pub keeps : Keeps db core journal
 
--- The fact comes: nothing speaks against it, and the core then stands for the journal with it.
+-- The fact comes: nothing speaks against it, and the core then keeps the journal with it.
 pub record TakesFact (db : List Domain) (J : Journal) (causes : Refusal → Type 0) (f : Fact) (new : Core) : Type 0 where
   pub free : IsFree causes
-  pub stands : StandsFor db new (f ∷ J)
+  pub keeps : Keeps db new (f ∷ J)
 
 -- why nothing changes: a refusal that comes by the causes, what is put off, or out of memory
 abbrev pub IsReason : (Refusal → Type 0) → Type 0 → Declined → Type 0

@@ -1,7 +1,8 @@
 -- What a hint that the table of hints treats gives to the radios.
-use Rattle.std.specs.Prelude.{◌≡◌, ◌<◌, ℕ, ◌+◌, ◌==◌, List, [], ◌∷◌, length, Option, Some, None, slice_index_or, if◌then◌else◌}
+use Rattle.std.specs.Prelude.{◌≡◌, ◌<◌, ℕ, ◌+◌, ◌==◌, Bool, false, not, List, [], ◌∷◌, length, Option, Some, None, slice_index_or, if◌then◌else◌}
 use Rattle.std.specs.Option.{option_to_list}
 use Rattle.rule_tables.specs.declared.code.Alpha2.{Alpha2}
+use Rattle.rule_tables.specs.Regions.{is_same_region}
 use Rattle.rule_tables.specs.declared.domain.Domain.{Domain}
 use Rattle.rule_intersect.specs.Tables.{IsTableOf, Joined}
 use Rattle.rule_intersect.specs.declared.fault.ResolveFault.{ResolveFault}
@@ -11,7 +12,7 @@ use Rattle.reg_hints.specs.declared.hint.Hint.{Hint}
 use Rattle.reg_hints.specs.declared.hint.Hint.TheVariants.{User, Driver, Element}
 use Rattle.reg_journal.specs.Refusals.{RowCauses}
 use Rattle.reg_journal.specs.declared.refusal.Refusal.TheVariants.{TooManyRows as RowsRefused}
-use Rattle.reg_core.specs.inner.Lists.{applies_by}
+use Rattle.reg_core.specs.inner.Lists.{applies_by, region_by}
 use Rattle.reg_core.specs.inner.Making.{IsMadeFault}
 use Rattle.reg_core.specs.declared.radio.Radio.{Radio}
 use Rattle.reg_core.specs.declared.radio.RadioPlace.{RadioPlace}
@@ -56,3 +57,11 @@ pub record AreNewTables (db : List Domain) (hints : State) (hint : Hint) (places
 abbrev pub IsRowsFault : List (List Domain) → ResolveFault → Type 0
 IsRowsFault lists (TooManyRows after rows) = RowCauses lists (RowsRefused rows)
 IsRowsFault lists OutOfMemory = Unit {0}
+
+-- whether the hint, which led from the one state of hints to the other, changes the region of the radio in the place
+abbrev pub place_moved : List Domain → State → State → Hint → ℕ → RadioPlace → Bool
+place_moved db before after hint r Free = false
+place_moved db before after hint r Removed = false
+place_moved db before after hint r (There radio) = not (is_same_region
+    (region_by db after radio.chans.profile.self_managed (driver_after hint r radio.driver))
+    (region_by db before radio.chans.profile.self_managed radio.driver))

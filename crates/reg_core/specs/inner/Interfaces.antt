@@ -1,5 +1,6 @@
 -- What is asked of the interfaces that are there, and done to them.
 use Rattle.std.specs.Prelude.{ℕ, ◌==◌, Bool, List, map, filter, find, Option, if◌then◌else◌}
+use Rattle.std.specs.Option.{option_map}
 use Rattle.reg_core.specs.Slots.{free_slot}
 use Rattle.reg_core.specs.declared.interface.Interface.{Interface}
 use Rattle.reg_core.specs.declared.interface.Running.{Running}
@@ -22,3 +23,10 @@ slot_on interfaces r = free_slot (map (λ p. p.slot) (interfaces_on interfaces r
 
 abbrev pub with_operation : ℕ → Option Running → Interface → Interface
 with_operation i operation p = if p.index == i then record p { operation = operation } else p
+
+-- the operation with this power
+abbrev pub running_with_power : ℕ → Running → Running
+running_with_power power o = record { chan = o.chan; power_mbm = power }
+
+abbrev pub with_running_power : ℕ → ℕ → Interface → Interface
+with_running_power i power p = if p.index == i then record p { operation = option_map (running_with_power power) p.operation } else p

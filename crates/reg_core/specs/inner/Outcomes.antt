@@ -1,6 +1,5 @@
 -- What a hint that the table of hints treats leads to.
 use Rattle.std.specs.Prelude.{◌≡◌, List, ◌∷◌}
-use Rattle.rule_tables.specs.declared.code.Alpha2.{Alpha2}
 use Rattle.rule_tables.specs.declared.domain.Domain.{Domain}
 use Rattle.rule_intersect.specs.Tables.{IsTableOf}
 use Rattle.reg_hints.specs.Table.{State, Treated, treatment}
@@ -20,9 +19,9 @@ pub record AreHintTables (db : List Domain) (hints : State) (hint : Hint) (place
   pub global : IsTableOf (global_by db hints) tables.global
   pub radios : AreNewTables db hints hint places tables.radios.items
 
--- nothing speaks against the hint for this code, and it leads to this
-pub record IsOutcome (db : List Domain) (J : Journal) (a : Alpha2) (hint : Hint) (places : List RadioPlace) (outcome : HintOutcome) : Type 0 where
-  pub free : IsFree (HintCauses db J a (Treated hint))
+-- nothing speaks against the hint, and it leads to this
+pub record IsOutcome (db : List Domain) (J : Journal) (hint : Hint) (places : List RadioPlace) (outcome : HintOutcome) : Type 0 where
+  pub free : IsFree (HintCauses db J (Treated hint))
   pub treatment_is : outcome.treatment ≡ treatment (hints_of J) hint
   pub hints : outcome.hints ≡ hints_of (hinted (Treated hint) ∷ J)
   pub tables : AreHintTables db outcome.hints hint places outcome.tables

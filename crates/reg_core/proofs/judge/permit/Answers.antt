@@ -1,8 +1,8 @@
-use Rattle.reg_core.proofs.Judged.{ends_by_radar, ends_unchecked, permitted, rules_of_fitting}
+use Rattle.reg_core.proofs.Judged.{ends_by, ends_by_radar, ends_unchecked, permitted, rules_of_fitting}
 use Rattle.reg_core.proofs.judge.permit.Goals as goal
 
 pub returns-in-Refused : goal.returns-in-Refused
-returns-in-Refused c = λ db J x has. c.refusal_of.ensures db J x c.args.chan.now (rw c.in-Refused.is at has.verdict_is)
+returns-in-Refused c = λ db J x has. rw c.refusal_of.ensures (ends_by db J x c.args.chan.now c.in-Refused.refusal (rw c.in-Refused.is at has.verdict_is))
 
 pub returns-in-Some : goal.returns-in-Some
 returns-in-Some c = λ db J x has.

@@ -5,10 +5,10 @@ use Rattle.reg_journal.specs.Due.{EachMayFollow}
 use Rattle.reg_core.specs.declared.radio.RadioPlace.TheVariants.{There}
 use Rattle.reg_journal.specs.Facts.{radio_added}
 use Rattle.reg_journal.specs.Present.{is_used}
-use Rattle.reg_core.specs.Kept.{KeepsRadio, StandsFor}
+use Rattle.reg_core.specs.Kept.{Keeps, KeepsRadio}
 use Rattle.reg_core.proofs.Moments.{now_of-small}
 use Rattle.reg_core.proofs.Newcomers.{driver_code_of-unused}
-use Rattle.reg_core.proofs.Stands.{place_kept, stands_after_radio}
+use Rattle.reg_core.proofs.KeptOver.{place_kept, keeps_after_radio}
 use Rattle.reg_core.proofs.core_state.Core.add_radio.Goals as goal
 
 used : (free is : Bool) → free ≡ false → (IsTrue free ↔ (is ≡ false)) → IsTrue is
@@ -24,7 +24,7 @@ returns-then-not-is_free c = record {
 
 pub new-requires-clause-time : goal.new-requires-clause-time
 new-requires-clause-time c =
-    let s = c.requires.core.stands in
+    let s = c.requires.core.keeps in
     let small = now_of-small c.requires.core.db c.requires.core.journal s.due in
     let same = s.clock in
     omega (arith, small, same)
@@ -38,8 +38,8 @@ returns c = record {
       let due : EachMayFollow db (radio_added c.args.radio c.args.profile ∷ J) = ((search rules, free, c.requires.profile), s.due) in
       record {
         free = free-where _ _ (λ taken. absurd (cc (taken, free)));
-        stands = subst (λ n. StandsFor db (record c.args.self.now { radios = set radios n (There c.in_ok-added.added) }) (radio_added c.args.radio c.args.profile ∷ J)) (sym c.get-number.ensures.number)
-            (stands_after_radio db J c.args.self.now c.args.radio c.args.profile c.in_ok-added.added s due (search rules)
+        keeps = subst (λ n. Keeps db (record c.args.self.now { radios = set radios n (There c.in_ok-added.added) }) (radio_added c.args.radio c.args.profile ∷ J)) (sym c.get-number.ensures.number)
+            (keeps_after_radio db J c.args.self.now c.args.radio c.args.profile c.in_ok-added.added s due (search rules)
             (subst (λ ds. KeepsRadio ds (radio_added c.args.radio c.args.profile ∷ J) c.args.radio c.in_ok-added.added) s.domains
             (c.in_ok-added.ensures.kept J c.args.radio (sym s.hints) (sym s.clock) (driver_code_of-unused db J c.args.radio s.due free)
             (subst (λ ds. EachMayFollow ds (radio_added c.args.radio c.args.profile ∷ J)) (sym s.domains) due))));

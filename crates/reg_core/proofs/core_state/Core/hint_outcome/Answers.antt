@@ -6,7 +6,7 @@ use Rattle.reg_journal.specs.Facts.{Journal}
 use Rattle.reg_journal.specs.Refusals.{RowCauses}
 use Rattle.reg_core.specs.inner.Deciding.{IsReason}
 use Rattle.reg_core.specs.inner.Hinting.{lists_after}
-use Rattle.reg_core.specs.Kept.{StandsFor}
+use Rattle.reg_core.specs.Kept.{Keeps}
 use Rattle.reg_core.specs.inner.Lists.{global_by}
 use Rattle.reg_core.specs.inner.Outcomes.{AreHintTables}
 use Rattle.reg_core.proofs.AllLists.{global_by-after}
@@ -18,16 +18,16 @@ known : (c : goal.After-hint_tables-arg-1) → find_domain c.args.self.now.domai
 known c none = search rules
 
 -- and past the table of hints, the hint may lead where it does
-leads : (c : goal.After-hint_tables-arg-1) (db : List Domain) (J : Journal) → StandsFor db c.args.self.now J → MayLead db J c.args.alpha2 c.args.hint.now c.apply.new.self
+leads : (c : goal.After-hint_tables-arg-1) (db : List Domain) (J : Journal) → Keeps db c.args.self.now J → MayLead db J c.args.hint.now c.apply.new.self
 leads c db J s =
     let same = c.same-hints.ensures in
-    may_lead db c.args.self.now.domains J c.args.alpha2 c.args.hint.now c.same-hints.result c.apply.new.self s.domains (same ∙ s.hints) (known c) c.in-Ok.ensures.answer.1 c.in-Ok.ensures.step
+    may_lead db c.args.self.now.domains J c.args.alpha2 c.args.hint.now c.same-hints.result c.apply.new.self s.domains (same ∙ s.hints) c.requires.code (known c) c.in-Ok.ensures.answer.1 c.in-Ok.ensures.step
 
 pub hint_tables-requires : goal.hint_tables-requires
 hint_tables-requires c =
     let domains = c.args.self.now.domains in
     let hints = c.args.self.now.hints in
-    let core = c.requires.core.stands in
+    let core = c.requires.core.keeps in
     let some : 0 < length (global_by domains hints) =
     subst (λ ds. 0 < length (global_by ds hints)) (sym core.domains) (subst (λ h. 0 < length (global_by c.requires.core.db h)) (sym core.hints) core.global.some) in
     let is_known = subst (λ a. IsSome (find_domain domains a)) c.requires.code (some_unless_none _ (known c)) in
@@ -44,7 +44,7 @@ returns-in-Ok-hint_tables c = λ db J s.
     let places = c.args.self.now.radios in
     let are = subst (λ ds. AreHintTables ds led hint places c.in-Ok-hint_tables.tables) s.domains c.in-Ok-hint_tables.ensures.tables in
     record {
-      free = free_of_tables db J c.args.alpha2 hint led places c.in-Ok-hint_tables.tables may (search rules) s.radios are;
+      free = free_of_tables db J hint led places c.in-Ok-hint_tables.tables may (search rules) s.radios are;
       treatment_is = c.in-Ok.ensures.answer.0 ∙ ap (λ s. treatment s hint) (c.same-hints.ensures ∙ s.hints);
       hints = may.led_is;
       tables = are;
@@ -56,5 +56,5 @@ returns-in-Err c = λ db J s.
     let hint = c.args.hint.now in
     let places = c.args.self.now.radios in
     let lists = global_by c.args.self.now.domains led ∷ lists_after c.args.self.now.domains led hint 0 places in
-    reason_of_rows db J c.args.alpha2 hint led places c.declined.result (leads c.before.before.before db J s) (search rules) s.radios
+    reason_of_rows db J hint led places c.declined.result (leads c.before.before.before db J s) (search rules) s.radios
     (subst (λ ds. IsReason (RowCauses (global_by ds led ∷ lists_after ds led hint 0 places)) ⊥ c.declined.result) s.domains (c.declined.ensures.rows lists c.in-Err.ensures.fault))

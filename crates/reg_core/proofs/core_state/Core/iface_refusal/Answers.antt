@@ -46,7 +46,7 @@ returns c = record {
       let made = s.made in
       let few = c.if-count_on-ge-MOST_ON_RADIO.false in
       let last = c.if-self-ge4294967295.false in
-      (refl, omega (arith, last, made), none, rw there refl, omega (arith, few, count));
+      (refl, omega (arith, last, made), none, rw there refl, omega (arith, few, count), c.as_bytes-bytes.ensures.name);
   first = λ db J s.
       let there = (c.in-Some.ensures.kept db J s.radios).profile in
       let same = c.as_slice-interfaces.ensures.items ∙ s.interfaces in

@@ -5,14 +5,14 @@ use Rattle.reg_core.proofs.core_state.Core.start.Goals as goal
 pub start-requires-clause-room : goal.start-requires-clause-room
 start-requires-clause-room g c =
     let ready = c.requires.ready in
-    start_has_room ready.db ready.journal c.args.name.now c.args.kind c.args.chan.now c.in-Ok.found.0 c.in-Ok.found.1 _ (ready.stands).due ready.driven
-    (c.in-Ok.ensures.start ready.db ready.journal ready.stands)
+    start_has_room ready.db ready.journal c.args.name.now c.args.kind c.args.chan.now c.in-Ok.found.0 c.in-Ok.found.1 _ ready.stands.keeps.due ready.driven
+    (c.in-Ok.ensures.start ready.db ready.journal ready.stands.keeps)
 
 pub returns-in-Ok-start : goal.returns-in-Ok-start
 returns-in-Ok-start g c = record {
   start = λ db J s.
-      starts_done db J c.args.name.now c.args.kind c.args.chan.now c.in-Ok.found.0 c.in-Ok.found.1 c.args.self.now c.set_operation.new.interfaces c.operate_at.new.radios _ _ s
-      (c.in-Ok.ensures.start db J s) (λ x is there due. c.operate_at.ensures.kept db J x _ s.radios is there (c.in-Ok.found.1, refl) due) c.set_operation.ensures.operation c.in-Ok-start.ensures.told;
+      starts_done db J c.args.name.now c.args.kind c.args.chan.now c.in-Ok.found.0 c.in-Ok.found.1 c.args.self.now c.operate.new.self _ _ s
+      (c.in-Ok.ensures.start db J s) (λ x s is due. c.operate.ensures.kept db J x _ s is refl due) c.in-Ok-start.ensures.told;
 }
 
 pub returns-in-Err-start : goal.returns-in-Err-start

@@ -4,7 +4,7 @@ use Rattle.reg_core.proofs.OneSteps.{at_refused, at_taken, step_declined}
 use Rattle.reg_core.proofs.core_state.Core.step_at.Goals as goal
 
 pub returns-in-Ok-clause-step : goal.returns-in-Ok-clause-step
-returns-in-Ok-clause-step c = λ db J row s. rw c.plain.ensures (at_taken db J c.args.moment c.args.self.now c.at.new.self row (c.in-Ok.ensures.taken db J s))
+returns-in-Ok-clause-step c = λ db J row s. rw c.plain.ensures (at_taken db J c.args.moment c.args.self.now c.at.new.self row s (c.in-Ok.ensures.taken db J s.keeps))
 
 pub returns-in-Err-clause-step : goal.returns-in-Err-clause-step
 returns-in-Err-clause-step c =

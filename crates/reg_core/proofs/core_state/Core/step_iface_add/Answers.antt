@@ -4,7 +4,7 @@ use Rattle.reg_core.proofs.OneSteps.{iface_refused, iface_taken, step_declined}
 use Rattle.reg_core.proofs.core_state.Core.step_iface_add.Goals as goal
 
 pub returns-in-Ok-clause-step : goal.returns-in-Ok-clause-step
-returns-in-Ok-clause-step c = λ db J row s. rw c.plain.ensures (iface_taken db J c.args.radio c.args.name c.args.kind c.args.self.now c.add_iface.new.self row (c.in-Ok.ensures.taken db J s))
+returns-in-Ok-clause-step c = λ db J row s. rw c.plain.ensures (iface_taken db J c.args.radio c.args.name c.args.kind c.args.self.now c.add_iface.new.self row s (c.in-Ok.ensures.taken db J s.keeps))
 
 pub returns-in-Err-clause-step : goal.returns-in-Err-clause-step
 returns-in-Err-clause-step c =

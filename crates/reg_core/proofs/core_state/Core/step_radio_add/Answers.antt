@@ -4,7 +4,7 @@ use Rattle.reg_core.proofs.OneSteps.{radio_refused, radio_taken, step_declined}
 use Rattle.reg_core.proofs.core_state.Core.step_radio_add.Goals as goal
 
 pub returns-in-Ok-clause-step : goal.returns-in-Ok-clause-step
-returns-in-Ok-clause-step c = λ db J row s. rw c.plain.ensures (radio_taken db J c.args.radio c.args.profile c.args.self.now c.add_radio.new.self row (c.in-Ok.ensures.taken db J s))
+returns-in-Ok-clause-step c = λ db J row s. rw c.plain.ensures (radio_taken db J c.args.radio c.args.profile c.args.self.now c.add_radio.new.self row s (c.in-Ok.ensures.taken db J s.keeps))
 
 pub returns-in-Err-clause-step : goal.returns-in-Err-clause-step
 returns-in-Err-clause-step c =

@@ -1,0 +1,79 @@
+-- The core keeps the journal with one more fact.
+use Rattle.std.proofs.Common.{◌≡◌, ℕ, ◌<◌, ◌≤◌, ◌^◌, ◌||◌, true, List, [], ◌∷◌, ◌++◌, ◌+◌, length, get_or, arith, refl, sym, subst, ap, ◌∙◌, eq-eqb}
+use Rattle.std.proofs.lemmas.List.{get_or_default}
+use Rattle.std.proofs.Math.ListN.{set}
+use Rattle.rule_tables.specs.declared.domain.Domain.{Domain}
+use Rattle.reg_journal.specs.Due.{EachMayFollow}
+use Rattle.chan_flags.specs.Profiles.{Abilities}
+use Rattle.reg_journal.specs.Facts.{Journal, moment_is, radio_added, made}
+use Rattle.reg_journal.specs.Present.{is_used, made_of}
+use Rattle.reg_core.specs.Kept.{Keeps, KeepsPlace, KeepsRadio, KeepsRadios, interfaces_of}
+use Rattle.reg_core.specs.inner.Interfaces.{slot_on}
+use Rattle.reg_core.specs.declared.interface.Interface.{Interface}
+use Rattle.chan_def.specs.declared.kind.Kind.{Kind}
+use Rattle.reg_core.specs.declared.core_state.Core.{Core}
+use Rattle.reg_core.specs.declared.radio.Radio.{Radio}
+use Rattle.reg_core.specs.declared.radio.RadioPlace.{RadioPlace}
+use Rattle.reg_core.specs.declared.radio.RadioPlace.TheVariants.{Free, There}
+use Rattle.reg_core.proofs.KeptInterfaces.{new_interface, interfaces_of-made}
+use Rattle.reg_core.proofs.Unchanged.{KeepsRadios-at, KeepsRadios-spared}
+
+pub keeps_after_moment : (db : List Domain) (J : Journal) (core : Core) (now : ℕ) (radios : List RadioPlace) → Keeps db core J
+    → core.clock ≤ now → now ≤ 10 ^ 15 → KeepsRadios db (moment_is now ∷ J) radios
+    → Keeps db (record core { clock = now; radios = radios }) (moment_is now ∷ J)
+keeps_after_moment db J core now radios s later within kept =
+    let due : EachMayFollow db (moment_is now ∷ J) = ((subst (λ n. n ≤ now) s.clock later, within), s.due) in
+    record {
+      due = due;
+      domains = s.domains;
+      clock = refl;
+      indoor = s.indoor;
+      hints = s.hints;
+      made = s.made;
+      global = s.global;
+      radios = kept;
+      interfaces = s.interfaces;
+    }
+
+-- the number of a radio that came is used
+used_now : (J : Journal) (r : ℕ) (profile : Abilities) → is_used (radio_added r profile ∷ J) r ≡ true
+used_now J r profile = ap (λ b. b || is_used J r) (eq-eqb r r refl)
+
+pub keeps_after_radio : (db : List Domain) (J : Journal) (core : Core) (r : ℕ) (profile : Abilities) (radio : Radio) → Keeps db core J
+    → EachMayFollow db (radio_added r profile ∷ J) → r < length core.radios → KeepsRadio db (radio_added r profile ∷ J) r radio
+    → Keeps db (record core { radios = set core.radios r (There radio) }) (radio_added r profile ∷ J)
+keeps_after_radio db J core r profile radio s due within kept = record {
+  due = due;
+  domains = s.domains;
+  clock = s.clock;
+  indoor = s.indoor;
+  hints = s.hints;
+  made = s.made;
+  global = s.global;
+  radios = KeepsRadios-at db J (radio_added r profile) core.radios r (There radio) within (λ q other. other) (used_now J r profile, kept) s.radios;
+  interfaces = s.interfaces;
+}
+
+pub keeps_after_making : (db : List Domain) (J : Journal) (core : Core) (name : List ℕ) (r : ℕ) (kind : Kind) (interfaces : List Interface) → Keeps db core J
+    → EachMayFollow db (made (made_of J + 1) name r kind ∷ J) → interfaces ≡ core.interfaces ++ new_interface (core.made + 1) name r (slot_on core.interfaces r) kind ∷ []
+    → Keeps db (record core { made = core.made + 1; interfaces = interfaces }) (made (made_of J + 1) name r kind ∷ J)
+keeps_after_making db J core name r kind interfaces s due grown = record {
+  due = due;
+  domains = s.domains;
+  clock = s.clock;
+  indoor = s.indoor;
+  hints = s.hints;
+  made = ap (λ n. n + 1) s.made;
+  global = s.global;
+  radios = KeepsRadios-spared db J (made (made_of J + 1) name r kind) core.radios (λ q. tt) s.radios;
+  interfaces = grown ∙ ap (λ ps. ps ++ new_interface (core.made + 1) name r (slot_on ps r) kind ∷ []) s.interfaces
+      ∙ ap (λ n. interfaces_of J ++ new_interface (n + 1) name r (slot_on (interfaces_of J) r) kind ∷ []) s.made
+      ∙ sym (interfaces_of-made db J name r kind due.1);
+}
+
+-- what is kept of a radio stands in its place
+pub place_kept : (db : List Domain) (J : Journal) (places : List RadioPlace) (r k : ℕ) (place : RadioPlace) → KeepsRadios db J places → length places ≡ 8 → k ≡ r → k < 8
+    → KeepsPlace db J r (get_or places k place)
+place_kept db J places r k place kept eight same below =
+    subst (λ n. KeepsPlace db J n (get_or places k place)) same
+    (subst (KeepsPlace db J k) (sym (get_or_default places k place Free (omega (arith, below, eight)))) (kept k below))

@@ -1,0 +1,6 @@
+use Rattle.std.proofs.Common.{inl, inr, refl}
+use Rattle.reg_core.proofs.ElementSteps.{hint_heard}
+use Rattle.reg_core.proofs.core_state.Core.element_hint.Goals as goal
+
+pub returns-in_default : goal.returns-in_default
+returns-in_default c = λ db J s. inl (c.in_default.ensures.kept db J s.radios, refl)

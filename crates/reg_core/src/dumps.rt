@@ -1,0 +1,5 @@
+//! What is shown: nothing changes.
+
+mod sections;
+
+pub(crate) use sections::all_sections;
