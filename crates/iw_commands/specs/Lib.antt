@@ -1,6 +1,4 @@
-pub mod Words
-pub mod Lines
 pub mod Scripts
 pub mod Spelling
+pub mod Cutting
 pub mod Printed
-pub mod inner

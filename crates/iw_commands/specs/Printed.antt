@@ -14,11 +14,11 @@ use Rattle.reg_journal.specs.declared.reply.HintAnswer.TheVariants.{Treated, Own
 use Rattle.reg_journal.specs.declared.reply.Reply.{Reply}
 use Rattle.reg_journal.specs.declared.reply.Reply.TheVariants.{Plain}
 use Rattle.iw_commands.specs.Spelling.{code_text, radio_text}
-use Rattle.iw_commands.specs.declared.fault.LineFault.{LineFault}
-use Rattle.iw_commands.specs.declared.fault.LineFault.TheVariants.{NotBuilt}
+use Rattle.line_forms.specs.declared.fault.LineFault.{LineFault}
+use Rattle.line_forms.specs.declared.fault.LineFault.TheVariants.{TooLong, NotAscii, Unknown, BadNumber, BadForm, Missing}
 
 -- what was there before still stands first
-pub record Keeps (before now : List ℕ) : Type 0 where
+pub record KeepsFront (before now : List ℕ) : Type 0 where
   pub more : List ℕ
   pub is : now ≡ before ++ more
 
@@ -116,9 +116,14 @@ AppendsTextOf reply before now = (text : List ℕ) × IsTextOf reply text × (no
 
 -- ---- faults of lines
 
--- the name of a fault, as it is printed
+-- the name of a fault, as it is printed, and the place of the word
 abbrev pub fault_name : LineFault → List ℕ
-fault_name NotBuilt = codes "not built"
+fault_name TooLong = codes "too long"
+fault_name NotAscii = codes "not ascii"
+fault_name (Unknown n) = codes "unknown word " ++ decimal n
+fault_name (BadNumber n) = codes "bad number word " ++ decimal n
+fault_name (BadForm n) = codes "bad form word " ++ decimal n
+fault_name Missing = codes "missing word"
 
 -- the line that answers a faulty line of a script
 abbrev pub line_fault_text : LineFault → List ℕ

@@ -1,19 +1,13 @@
-//! Faults of lines.
+//! The texts of faults of lines.
 
 ghost use Rattle.std.specs.Prelude.{◌≡◌, ◌++◌, IfOk, OnOk};
-ghost use Rattle.iw_commands.specs.Printed.{Keeps, fault_name, line_fault_text};
+ghost use Rattle.iw_commands.specs.Printed.{KeepsFront, fault_name, line_fault_text};
 
-use crate::pieces_printer::{put_labelled, put_text};
+use crate::pieces_printer::{put_number, put_text};
+use line_forms::LineFault;
 use reg_base::Bytes;
 use reg_lists::OutOfMemory;
 use std::alloc::Global;
-
-/// Why a line is neither a request nor to be passed over.
-#[derive(Clone, Copy, Debug, PartialEq, Eq)]
-pub enum LineFault {
-    /// It has no form that is built yet.
-    NotBuilt,
-}
 
 /// The line that tells the fault: `line fault: `, its name and a newline.
 pub fn fault_text(alloc: Global, fault: &LineFault) -> Result<Bytes, OutOfMemory>
@@ -29,18 +23,26 @@ pub fn fault_text(alloc: Global, fault: &LineFault) -> Result<Bytes, OutOfMemory
 #[tactic(auto, using(crate::proofs::Kept::steps))]
 pub fn put_fault(out: &mut Bytes, fault: &LineFault) -> Result<(), OutOfMemory>
     ensures text { OnOk result (out.new ≡ out.old ++ line_fault_text fault.now) }
-    ensures kept { Keeps out.old out.new }
+    ensures kept { KeepsFront out.old out.new }
 {
-    put_labelled(out, b"line fault: ", name_of(fault))?;
+    put_text(out, b"line fault: ")?;
+    put_name(out, fault)?;
     put_text(out, b"\n")?;
     Ok(())
 }
 
-/// The name of the fault.
-fn name_of(fault: &LineFault) -> &'static [u8]
-    ensures { result.now ≡ fault_name fault.now }
+/// Appends the name of the fault.
+#[tactic(auto, using(crate::proofs::Kept::steps))]
+fn put_name(out: &mut Bytes, fault: &LineFault) -> Result<(), OutOfMemory>
+    ensures text { OnOk result (out.new ≡ out.old ++ fault_name fault.now) }
+    ensures kept { KeepsFront out.old out.new }
 {
     match fault {
-        LineFault::NotBuilt => b"not built",
+        LineFault::TooLong => put_text(out, b"too long"),
+        LineFault::NotAscii => put_text(out, b"not ascii"),
+        LineFault::Unknown(place) => put_number(out, b"unknown word ", *place),
+        LineFault::BadNumber(place) => put_number(out, b"bad number word ", *place),
+        LineFault::BadForm(place) => put_number(out, b"bad form word ", *place),
+        LineFault::Missing => put_text(out, b"missing word"),
     }
 }

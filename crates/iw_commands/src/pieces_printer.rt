@@ -1,7 +1,7 @@
 //! Prints the parts of a line.
 
 ghost use Rattle.std.specs.Prelude.{◌≡◌, ◌++◌, decimal, OnOk};
-ghost use Rattle.iw_commands.specs.Printed.{Keeps, whole_mhz_text};
+ghost use Rattle.iw_commands.specs.Printed.{KeepsFront, whole_mhz_text};
 ghost use Rattle.iw_commands.specs.Spelling.{code_text, radio_text};
 
 use itoa::Buffer;
@@ -14,7 +14,7 @@ use rule_tables::Alpha2;
 #[tactic(auto, using(crate::proofs::Kept::steps))]
 pub fn put_text(out: &mut Bytes, text: &[u8]) -> Result<(), OutOfMemory>
     ensures text { OnOk result (out.new ≡ out.old ++ text.now) }
-    ensures kept { Keeps out.old out.new }
+    ensures kept { KeepsFront out.old out.new }
 {
     out.append(text)?;
     Ok(())
@@ -24,7 +24,7 @@ pub fn put_text(out: &mut Bytes, text: &[u8]) -> Result<(), OutOfMemory>
 #[tactic(auto, using(crate::proofs::Kept::steps))]
 pub fn put_labelled(out: &mut Bytes, label: &[u8], text: &[u8]) -> Result<(), OutOfMemory>
     ensures text { OnOk result (out.new ≡ out.old ++ (label.now ++ text.now)) }
-    ensures kept { Keeps out.old out.new }
+    ensures kept { KeepsFront out.old out.new }
 {
     put_text(out, label)?;
     put_text(out, text)?;
@@ -35,7 +35,7 @@ pub fn put_labelled(out: &mut Bytes, label: &[u8], text: &[u8]) -> Result<(), Ou
 #[tactic(auto, using(crate::proofs::Kept::steps))]
 pub fn put_number(out: &mut Bytes, label: &[u8], number: u64) -> Result<(), OutOfMemory>
     ensures text { OnOk result (out.new ≡ out.old ++ (label.now ++ decimal number)) }
-    ensures kept { Keeps out.old out.new }
+    ensures kept { KeepsFront out.old out.new }
 {
     let mut buffer = Buffer::new();
     put_labelled(out, label, buffer.format(number).as_bytes())?;
@@ -46,7 +46,7 @@ pub fn put_number(out: &mut Bytes, label: &[u8], number: u64) -> Result<(), OutO
 #[tactic(auto, using(crate::proofs::Kept::steps))]
 pub fn put_mhz(out: &mut Bytes, label: &[u8], khz: u32) -> Result<(), OutOfMemory>
     ensures text { OnOk result (out.new ≡ out.old ++ (label.now ++ whole_mhz_text khz)) }
-    ensures kept { Keeps out.old out.new }
+    ensures kept { KeepsFront out.old out.new }
 {
     put_number(out, label, u64::from(khz / 1_000))?;
     Ok(())
@@ -56,7 +56,7 @@ pub fn put_mhz(out: &mut Bytes, label: &[u8], khz: u32) -> Result<(), OutOfMemor
 #[tactic(auto, using(crate::proofs::Kept::steps))]
 pub fn put_radio(out: &mut Bytes, label: &[u8], radio: RadioNo) -> Result<(), OutOfMemory>
     ensures text { OnOk result (out.new ≡ out.old ++ (label.now ++ radio_text radio)) }
-    ensures kept { Keeps out.old out.new }
+    ensures kept { KeepsFront out.old out.new }
 {
     put_text(out, label)?;
     put_number(out, b"phy", u64::from(radio.get()))?;
@@ -67,7 +67,7 @@ pub fn put_radio(out: &mut Bytes, label: &[u8], radio: RadioNo) -> Result<(), Ou
 #[tactic(auto, using(crate::proofs::Kept::steps))]
 pub fn put_code(out: &mut Bytes, label: &[u8], code: Alpha2) -> Result<(), OutOfMemory>
     ensures text { OnOk result (out.new ≡ out.old ++ (label.now ++ code_text code)) }
-    ensures kept { Keeps out.old out.new }
+    ensures kept { KeepsFront out.old out.new }
 {
     put_labelled(out, label, &[code.a, code.b])?;
     Ok(())

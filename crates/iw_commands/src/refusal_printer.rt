@@ -1,7 +1,7 @@
 //! Prints refusals.
 
 ghost use Rattle.std.specs.Prelude.{◌≡◌, ◌++◌, OnOk};
-ghost use Rattle.iw_commands.specs.Printed.{Keeps, refusal_text};
+ghost use Rattle.iw_commands.specs.Printed.{KeepsFront, refusal_text};
 
 use crate::pieces_printer::{put_code, put_labelled, put_mhz, put_number, put_radio, put_text};
 use reg_base::Bytes;
@@ -12,7 +12,7 @@ use reg_lists::OutOfMemory;
 #[tactic(auto, using(crate::proofs::Kept::steps))]
 pub fn put_refusal(out: &mut Bytes, refusal: &Refusal) -> Result<(), OutOfMemory>
     ensures text { OnOk result (out.new ≡ out.old ++ refusal_text refusal.now) }
-    ensures kept { Keeps out.old out.new }
+    ensures kept { KeepsFront out.old out.new }
 {
     match refusal {
         Refusal::MomentBack(now) => put_number(out, b"moment back ", *now),

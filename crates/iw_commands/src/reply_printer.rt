@@ -2,7 +2,7 @@
 
 ghost use Rattle.std.specs.Prelude.{◌≡◌, ◌++◌, IfOk, OnOk};
 ghost use Rattle.reg_base.specs.Texts.{line_of};
-ghost use Rattle.iw_commands.specs.Printed.{Keeps, AppendsTextOf, IsPlain, IsTextOf, answer_text, effect_lines, effect_text, hint_text};
+ghost use Rattle.iw_commands.specs.Printed.{KeepsFront, AppendsTextOf, IsPlain, IsTextOf, answer_text, effect_lines, effect_text, hint_text};
 
 use crate::pieces_printer::{put_labelled, put_number, put_text};
 use crate::refusal_printer::put_refusal;
@@ -28,7 +28,7 @@ pub fn reply_text(alloc: Global, reply: &Reply) -> Result<Bytes, OutOfMemory>
 pub fn put_reply(out: &mut Bytes, reply: &Reply) -> Result<(), OutOfMemory>
     requires plain { IsPlain reply.now }
     ensures text { OnOk result (AppendsTextOf reply.now out.old out.new) }
-    ensures kept { Keeps out.old out.new }
+    ensures kept { KeepsFront out.old out.new }
 {
     match reply {
         Reply::Plain { answer, effects } => {
@@ -47,7 +47,7 @@ pub fn put_reply(out: &mut Bytes, reply: &Reply) -> Result<(), OutOfMemory>
 #[tactic(auto, using(crate::proofs::Kept::steps))]
 fn put_answer(out: &mut Bytes, answer: &Answer) -> Result<(), OutOfMemory>
     ensures text { OnOk result (out.new ≡ out.old ++ line_of (answer_text answer.now)) }
-    ensures kept { Keeps out.old out.new }
+    ensures kept { KeepsFront out.old out.new }
 {
     put_answer_text(out, answer)?;
     put_text(out, b"\n")?;
@@ -58,7 +58,7 @@ fn put_answer(out: &mut Bytes, answer: &Answer) -> Result<(), OutOfMemory>
 #[tactic(auto, using(crate::proofs::Kept::steps))]
 fn put_answer_text(out: &mut Bytes, answer: &Answer) -> Result<(), OutOfMemory>
     ensures text { OnOk result (out.new ≡ out.old ++ answer_text answer.now) }
-    ensures kept { Keeps out.old out.new }
+    ensures kept { KeepsFront out.old out.new }
 {
     match answer {
         Answer::Ok => put_text(out, b"ok"),
@@ -89,7 +89,7 @@ fn hint_text(taken: HintAnswer) -> &'static [u8]
 #[tactic(auto, using(crate::proofs::Kept::steps))]
 fn put_effects(out: &mut Bytes, effects: &[Effect]) -> Result<(), OutOfMemory>
     ensures text { OnOk result (out.new ≡ out.old ++ effect_lines effects.now) }
-    ensures kept { Keeps out.old out.new }
+    ensures kept { KeepsFront out.old out.new }
 {
     for effect in effects {
         put_effect(out, effect)?;
@@ -102,7 +102,7 @@ fn put_effects(out: &mut Bytes, effects: &[Effect]) -> Result<(), OutOfMemory>
 #[tactic(auto, using(crate::proofs::Kept::steps))]
 fn put_effect(out: &mut Bytes, effect: &Effect) -> Result<(), OutOfMemory>
     ensures text { OnOk result (out.new ≡ out.old ++ effect_text effect.now) }
-    ensures kept { Keeps out.old out.new }
+    ensures kept { KeepsFront out.old out.new }
 {
     match effect {
         Effect::Stopped(name) => put_labelled(out, b"\tstopped ", name.as_bytes()),

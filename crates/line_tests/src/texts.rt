@@ -1,7 +1,5 @@
 //! Replies and faults of lines with their texts, written out by hand.
 
-ghost use Rattle.iw_commands.specs.Printed.{IsPlain};
-
 use iw_commands::{LineFault, fault_text, put_fault, put_reply, reply_text};
 use radio_drv::Name;
 use reg_base::Bytes;
@@ -22,19 +20,12 @@ fn name(rt: &impl Abort, bytes: &[u8]) -> Name {
     Name::new(bytes).expect(rt, "a name")
 }
 
-/// A reply without effects.
-fn plain(answer: Answer) -> Reply
-    ensures { IsPlain result }
-{
-    Reply::Plain {
-        answer,
-        effects: Effects::new(),
-    }
-}
-
 /// The reply has this text.
 fn says(rt: &impl Abort, alloc: Global, answer: Answer, wanted: &[u8]) {
-    let reply = plain(answer);
+    let reply = Reply::Plain {
+        answer,
+        effects: Effects::new(),
+    };
     match reply_text(alloc, &reply) {
         Ok(text) => assert!(rt; text.as_slice() == wanted),
         Err(fault) => assert!(rt; false, "{fault:?}"),
@@ -94,12 +85,21 @@ fn texts_of_effects_and_faults(rt: HostRuntime) -> Result<(), Fail> {
         effects,
     };
     let mut text = Bytes::new(rt.alloc());
-    put_fault(&mut text, &LineFault::NotBuilt)?;
+    put_fault(&mut text, &LineFault::BadForm(4))?;
     put_reply(&mut text, &reply)?;
     let wanted =
-        b"line fault: not built\nhint replaced\n\tstopped ap0\n\tdropped ap1\n\tpower sta0 0\n";
+        b"line fault: bad form word 4\nhint replaced\n\tstopped ap0\n\tdropped ap1\n\tpower sta0 0\n";
     assert!(rt; text.as_slice() == wanted.as_slice());
-    let fault = fault_text(rt.alloc(), &LineFault::NotBuilt)?;
-    assert!(rt; fault.as_slice() == b"line fault: not built\n".as_slice());
+    let rows: [(LineFault, &[u8]); 5] = [
+        (LineFault::TooLong, b"line fault: too long\n"),
+        (LineFault::NotAscii, b"line fault: not ascii\n"),
+        (LineFault::Unknown(3), b"line fault: unknown word 3\n"),
+        (LineFault::BadNumber(2), b"line fault: bad number word 2\n"),
+        (LineFault::Missing, b"line fault: missing word\n"),
+    ];
+    for (fault, wanted) in rows {
+        let text = fault_text(rt.alloc(), &fault)?;
+        assert!(rt; text.as_slice() == wanted);
+    }
     Ok(())
 }

@@ -1,0 +1,17 @@
+pub mod Apart
+pub mod ChannelNumbers
+pub mod Decided
+pub mod FillsOne
+pub mod Found
+pub mod Furthest
+pub mod Looks
+pub mod Meanings
+pub mod NamedChannels
+pub mod Numbers
+pub mod OneFault
+pub mod Plainly
+pub mod RuleParts
+pub mod Saying
+pub mod Steps
+pub mod Walks
+pub mod WordCuts

@@ -1,0 +1,9 @@
+pub mod Words
+pub mod Spelling
+pub mod Told
+pub mod Slots
+pub mod Rows
+pub mod Forms
+pub mod Faults
+pub mod Lines
+pub mod inner
