@@ -1,0 +1,14 @@
+pub mod OneValue
+pub mod OneRule
+pub mod OneField
+pub mod Named
+pub mod Meanings
+pub mod ReadValues
+pub mod ReadFields
+pub mod RuleLists
+pub mod LineRequests
+pub mod RuleBytes
+pub mod Answered
+pub mod InRange
+pub mod LineAsked
+pub mod Again
