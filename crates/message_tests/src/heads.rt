@@ -49,11 +49,6 @@ fn heads_of_messages(rt: HostRuntime) -> Result<(), Fail> {
     put_message(&mut out, &done)?;
     assert!(rt; head_of(&done).as_slice() == &MESSAGES[68..84]);
     assert!(rt; out.as_slice() == MESSAGES.as_slice());
-    Ok(())
-}
-
-#[test]
-fn heads_of_what_is_held(rt: HostRuntime) -> Result<(), Fail> {
     assert!(rt; head_in(&MESSAGES[..15]).is_none());
     match head_in(&MESSAGES[..17]) {
         Some(head) => assert!(rt; head.as_slice() == &MESSAGES[..16]),

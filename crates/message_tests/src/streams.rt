@@ -92,9 +92,8 @@ const ANSWERS: [u8; 56] = [
     0x14, 0, 0, 0, 3, 0, 2, 0, 2, 0, 0, 0, 0, 0, 0, 0, 0, 0, 0, 0,
 ];
 
-#[test]
-fn spellings(rt: HostRuntime) -> Result<(), Fail> {
-    let alloc = rt.alloc();
+/// Messages of each kind are written.
+fn spellings(rt: &impl Abort, alloc: Global) -> Result<(), Fail> {
     let mut attrs = AttrList::new(alloc);
     attrs.push(Attr::new(alloc, 0x21, Payload::Text(b"US"))?)?;
     let set_reg = Msg::Generic {
@@ -127,64 +126,47 @@ fn spellings(rt: HostRuntime) -> Result<(), Fail> {
     Ok(())
 }
 
-#[test]
-fn streams_of_messages(rt: HostRuntime) -> Result<(), Fail> {
-    let alloc = rt.alloc();
-    assert_stream(&rt, alloc, &[], 0, Ok(()))?;
-    assert_stream(&rt, alloc, &REQUESTS, 48, Ok(()))?;
-    assert_stream(
-        &rt,
-        alloc,
-        &REQUESTS[..47],
-        28,
-        Err(AttrFault::Truncated(19)),
-    )?;
-    assert_stream(
-        &rt,
-        alloc,
-        &REQUESTS[..31],
-        28,
-        Err(AttrFault::Truncated(3)),
-    )?;
-    assert_stream(&rt, alloc, &ANSWERS, 56, Ok(()))?;
-    assert_stream(
-        &rt,
-        alloc,
-        &ANSWERS[..55],
-        36,
-        Err(AttrFault::Truncated(19)),
-    )?;
-    Ok(())
-}
+/// So many bytes of a stream, how many of them are whole messages, and how the stream ends.
+const STREAMS: [(&[u8], usize, usize, Result<(), AttrFault>); 16] = [
+    (&[], 0, 0, Ok(())),
+    (&REQUESTS, 48, 48, Ok(())),
+    (&REQUESTS, 47, 28, Err(AttrFault::Truncated(19))),
+    (&REQUESTS, 31, 28, Err(AttrFault::Truncated(3))),
+    (&ANSWERS, 56, 56, Ok(())),
+    (&ANSWERS, 55, 36, Err(AttrFault::Truncated(19))),
+    (&[0x12, 0, 0, 0], 4, 0, Err(AttrFault::BadLength(18))),
+    (&[0x15, 0, 0, 0], 4, 0, Err(AttrFault::BadLength(21))),
+    (&[4, 0, 1, 0], 4, 0, Err(AttrFault::Overlong(65_540))),
+    (&[0x14, 0, 0, 0, 2, 0], 6, 0, Err(AttrFault::BadLength(20))),
+    (&[0x24, 0, 0, 0, 3, 0], 6, 0, Err(AttrFault::BadLength(36))),
+    (&[0x14, 0, 0, 0, 4, 0], 6, 0, Err(AttrFault::BadType(4))),
+    (&[0x14, 0, 0, 0, 1, 0], 6, 0, Err(AttrFault::BadType(1))),
+    (&[0x14, 0, 0, 0, 0x0f, 0], 6, 0, Err(AttrFault::BadType(15))),
+    (
+        &[
+            0x18, 0, 0, 0, 0x20, 0, 5, 0, 1, 0, 0, 0, 0, 0, 0, 0, 0x1f, 0, 0, 0, 3, 0, 0x21, 0,
+        ],
+        24,
+        0,
+        Err(AttrFault::BadAttr(20)),
+    ),
+    (
+        &[
+            0x14, 0, 0, 0, 0x20, 0, 5, 0, 1, 0, 0, 0, 0, 0, 0, 0, 0x1f, 0, 1, 0,
+        ],
+        20,
+        0,
+        Err(AttrFault::BadAttr(18)),
+    ),
+];
 
-#[test]
-fn streams_with_faults(rt: HostRuntime) -> Result<(), Fail> {
-    let alloc = rt.alloc();
-    let table: [(&[u8], AttrFault); 10] = [
-        (&[0x12, 0, 0, 0], AttrFault::BadLength(18)),
-        (&[0x15, 0, 0, 0], AttrFault::BadLength(21)),
-        (&[4, 0, 1, 0], AttrFault::Overlong(65_540)),
-        (&[0x14, 0, 0, 0, 2, 0], AttrFault::BadLength(20)),
-        (&[0x24, 0, 0, 0, 3, 0], AttrFault::BadLength(36)),
-        (&[0x14, 0, 0, 0, 4, 0], AttrFault::BadType(4)),
-        (&[0x14, 0, 0, 0, 1, 0], AttrFault::BadType(1)),
-        (&[0x14, 0, 0, 0, 0x0f, 0], AttrFault::BadType(15)),
-        (
-            &[
-                0x18, 0, 0, 0, 0x20, 0, 5, 0, 1, 0, 0, 0, 0, 0, 0, 0, 0x1f, 0, 0, 0, 3, 0, 0x21, 0,
-            ],
-            AttrFault::BadAttr(20),
-        ),
-        (
-            &[
-                0x14, 0, 0, 0, 0x20, 0, 5, 0, 1, 0, 0, 0, 0, 0, 0, 0, 0x1f, 0, 1, 0,
-            ],
-            AttrFault::BadAttr(18),
-        ),
-    ];
-    for (stream, fault) in table {
-        assert!(rt; stream.len() < ROOM);
-        assert_stream(&rt, alloc, stream, 0, Err(fault))?;
+/// Streams are taken whole and byte by byte.
+fn streams_of_messages(rt: &impl Abort, alloc: Global) -> Result<(), Fail> {
+    for (stream, length, taken, end) in STREAMS {
+        let front = stream.get(..length).unwrap_or(stream);
+        assert!(rt; front.len() < ROOM);
+        assert!(rt; taken <= front.len());
+        assert_stream(rt, alloc, front, taken, end)?;
     }
     Ok(())
 }
@@ -195,9 +177,8 @@ const BROKEN: [u8; 24] = [
     3, 0, 0x21, 0,
 ];
 
-#[test]
-fn a_fault_stays(rt: HostRuntime) -> Result<(), Fail> {
-    let alloc = rt.alloc();
+/// A fault stays, whatever comes behind it.
+fn a_fault_stays(rt: &impl Abort, alloc: Global) -> Result<(), Fail> {
     let mut decoder = Decoder::new(alloc);
     decoder.feed(&BROKEN[..23])?;
     assert!(rt; matches!(decoder.next(), Ok(None)));
@@ -238,12 +219,11 @@ fn long_message(alloc: Global, length: usize) -> Result<Msg, Fail>
     })
 }
 
-#[test]
-fn limits(rt: HostRuntime) -> Result<(), Fail> {
-    let alloc = rt.alloc();
+/// A message has at most 65536 bytes.
+fn limits(rt: &impl Abort, alloc: Global) -> Result<(), Fail> {
     let bytes = encode(alloc, &long_message(alloc, 65_512)?)?;
     assert!(rt; bytes.len() == 65_536);
-    assert_stream(&rt, alloc, bytes.as_slice(), 65_536, Ok(()))?;
+    assert_stream(rt, alloc, bytes.as_slice(), 65_536, Ok(()))?;
     let table = [(65_513, 65_540), (65_531, 65_556), (65_532, 65_532)];
     for (length, overlong) in table {
         let message = long_message(alloc, length)?;
@@ -252,9 +232,8 @@ fn limits(rt: HostRuntime) -> Result<(), Fail> {
     Ok(())
 }
 
-#[test]
-fn lists_grow(rt: HostRuntime) -> Result<(), Fail> {
-    let alloc = rt.alloc();
+/// Lists of messages grow.
+fn lists_grow(rt: &impl Abort, alloc: Global) -> Result<(), Fail> {
     let mut messages = MsgList::new(alloc);
     assert!(rt; messages.is_empty());
     messages.push(long_message(alloc, 0)?)?;
@@ -262,4 +241,14 @@ fn lists_grow(rt: HostRuntime) -> Result<(), Fail> {
     assert!(rt; messages.get(0).is_some());
     assert!(rt; messages.get(1).is_none());
     Ok(())
+}
+
+#[test]
+fn messages(rt: HostRuntime) -> Result<(), Fail> {
+    let alloc = rt.alloc();
+    spellings(&rt, alloc)?;
+    streams_of_messages(&rt, alloc)?;
+    a_fault_stays(&rt, alloc)?;
+    limits(&rt, alloc)?;
+    lists_grow(&rt, alloc)
 }

@@ -77,24 +77,225 @@ fn channel(control: u16, width: Width, centre: u16) -> ChanDef {
     }
 }
 
-/// The verdict on a channel that is valid.
-fn judged(
-    rt: &impl Abort,
-    chans: &RadioChans,
-    c: &ChanDef,
-    kind: Kind,
-    indoor: bool,
-    setting: PowerSetting,
-) -> Verdict {
-    assert!(rt; c.valid());
-    chans.verdict(c, kind, indoor, setting)
+/// A channel by its control channel, its width and its centre, in MHz; the kind that is to operate there,
+/// indoors or not, with a power that is set so; and the verdict.
+type Judged = (u16, Width, u16, Kind, bool, PowerSetting, Verdict);
+
+/// The verdicts under the country and its neighbour, for a radio of 2200 mBm, 80 MHz wide.
+const UNDER_BOTH: [Judged; 14] = [
+    // A channel that the radio lacks comes before the rule that is too narrow below it.
+    (
+        2457,
+        Width::W40,
+        2467,
+        Kind::Ap,
+        false,
+        PowerSetting::Auto,
+        Verdict::Refused(ChanRefusal::LacksChannel(2_477_000)),
+    ),
+    (
+        5180,
+        Width::W160,
+        5250,
+        Kind::Ap,
+        false,
+        PowerSetting::Auto,
+        Verdict::Refused(ChanRefusal::LacksWidth(160)),
+    ),
+    (
+        2467,
+        Width::W20,
+        2467,
+        Kind::Ap,
+        false,
+        PowerSetting::Auto,
+        Verdict::Refused(ChanRefusal::NoRule(2_467_000)),
+    ),
+    (
+        2412,
+        Width::W40,
+        2422,
+        Kind::Ap,
+        false,
+        PowerSetting::Auto,
+        Verdict::Refused(ChanRefusal::TooNarrow(2_412_000)),
+    ),
+    (
+        5520,
+        Width::W40,
+        5510,
+        Kind::Ap,
+        false,
+        PowerSetting::Auto,
+        Verdict::Refused(ChanRefusal::NoOfdm(5_500_000)),
+    ),
+    (
+        5745,
+        Width::W20,
+        5745,
+        Kind::Ap,
+        false,
+        PowerSetting::Auto,
+        Verdict::Refused(ChanRefusal::NoIr(5_745_000)),
+    ),
+    (
+        5220,
+        Width::W80,
+        5210,
+        Kind::Ap,
+        false,
+        PowerSetting::Auto,
+        Verdict::Refused(ChanRefusal::NoOutdoor(5_180_000)),
+    ),
+    // The country's 2300 mBm, the neighbour's 2100 and the radio's 2200.
+    (
+        5220,
+        Width::W80,
+        5210,
+        Kind::Ap,
+        true,
+        PowerSetting::Auto,
+        Verdict::Fits {
+            power_mbm: 2100,
+            check_ms: 0,
+        },
+    ),
+    (
+        5220,
+        Width::W80,
+        5210,
+        Kind::Ap,
+        true,
+        PowerSetting::Limit(1500),
+        Verdict::Fits {
+            power_mbm: 1500,
+            check_ms: 0,
+        },
+    ),
+    (
+        5220,
+        Width::W80,
+        5210,
+        Kind::Ap,
+        true,
+        PowerSetting::Fixed(2100),
+        Verdict::Fits {
+            power_mbm: 2100,
+            check_ms: 0,
+        },
+    ),
+    (
+        5220,
+        Width::W80,
+        5210,
+        Kind::Ap,
+        true,
+        PowerSetting::Fixed(2101),
+        Verdict::Refused(ChanRefusal::AboveLimit(2100)),
+    ),
+    // The country checks for ten minutes, the neighbour for one.
+    (
+        5260,
+        Width::W40,
+        5270,
+        Kind::Mesh,
+        false,
+        PowerSetting::Auto,
+        Verdict::Fits {
+            power_mbm: 2000,
+            check_ms: 600_000,
+        },
+    ),
+    // A station and a monitor don't send first, so NO-IR doesn't bar them. The power is the radio's.
+    (
+        5745,
+        Width::Noht,
+        5745,
+        Kind::Station,
+        false,
+        PowerSetting::Auto,
+        Verdict::Fits {
+            power_mbm: 2200,
+            check_ms: 0,
+        },
+    ),
+    (
+        5745,
+        Width::Noht,
+        5745,
+        Kind::Monitor,
+        false,
+        PowerSetting::Auto,
+        Verdict::Fits {
+            power_mbm: 2200,
+            check_ms: 0,
+        },
+    ),
+];
+
+/// The verdicts under one rule of 6 GHz, for a radio 320 MHz wide.
+const OF_320_MHZ: [Judged; 2] = [
+    (
+        5955,
+        Width::W320,
+        6105,
+        Kind::Ap,
+        false,
+        PowerSetting::Auto,
+        Verdict::Fits {
+            power_mbm: 2300,
+            check_ms: 0,
+        },
+    ),
+    (
+        7115,
+        Width::W320,
+        7265,
+        Kind::Ap,
+        false,
+        PowerSetting::Auto,
+        Verdict::Refused(ChanRefusal::LacksChannel(7_135_000)),
+    ),
+];
+
+/// The channels are valid, and have these verdicts.
+fn judges(rt: &impl Abort, chans: &RadioChans, rows: &[Judged]) {
+    for (control, width, centre, kind, indoor, setting, verdict) in rows {
+        let chan = channel(*control, *width, *centre);
+        assert!(rt; chan.valid(), "{control} {centre}");
+        let found = chans.verdict(&chan, *kind, *indoor, *setting);
+        assert!(rt; found == *verdict, "{control} {centre}");
+    }
 }
 
-/// The channel is allowed with this power, in mBm, after a check of this length, in ms.
-fn fits(power_mbm: u16, check_ms: u32) -> Verdict {
-    Verdict::Fits {
-        power_mbm,
-        check_ms,
+/// Channels of the world's rules by their places, each with its centre, in kHz, and what fits there: the
+/// width, in kHz, the flags and the check, in ms.
+const PLACES: [(usize, u32, Option<(u32, RuleFlags, u32)>); 4] = [
+    (0, 2_412_000, Some((40_000, RuleFlags::NONE, 0))),
+    (11, 2_467_000, None),
+    (14, 5_180_000, Some((160_000, NO_IR, 0))),
+    (
+        18,
+        5_260_000,
+        Some((160_000, RuleFlags { dfs: true, ..NO_IR }, 60_000)),
+    ),
+];
+
+/// The channels stand at their places.
+fn are_placed(
+    rt: &impl Abort,
+    chans: &RadioChans,
+    rows: &[(usize, u32, Option<(u32, RuleFlags, u32)>)],
+) {
+    for (place, khz, fit) in rows {
+        let fit = fit.map(|(width_khz, flags, check_ms)| Fit {
+            flags,
+            limit_mbm: 2000,
+            check_ms,
+            width_khz,
+        });
+        let chan = Chan { khz: *khz, fit };
+        assert!(rt; chans.chan(*place) == Some(chan), "at {khz}");
     }
 }
 
@@ -108,110 +309,38 @@ fn one_country_gives_each_channel_its_governing_rule(rt: HostRuntime) -> Result<
     };
     assert!(rt; chans.chan(0) == Some(unfit));
     chans.refresh(&first(rt.alloc(), &domain(rt.alloc(), &world())?)?);
-    let checked = RuleFlags { dfs: true, ..NO_IR };
-    let rows = [
-        (0, 2_412_000, Some((40_000, RuleFlags::NONE, 0))),
-        (11, 2_467_000, None),
-        (14, 5_180_000, Some((160_000, NO_IR, 0))),
-        (18, 5_260_000, Some((160_000, checked, 60_000))),
-    ];
-    for (place, khz, fit) in rows {
-        let fit = fit.map(|(width_khz, flags, check_ms)| Fit {
-            flags,
-            limit_mbm: 2000,
-            check_ms,
-            width_khz,
-        });
-        assert!(rt; chans.chan(place) == Some(Chan { khz, fit }), "at {khz}");
-    }
+    are_placed(&rt, &chans, &PLACES);
     assert!(rt; chans.chan(42).is_none());
     Ok(())
 }
 
-/// A radio of 2200 mBm, 80 MHz wide, under the country and its neighbour.
-fn under_both(rt: &impl Abort, alloc: Global) -> Result<RadioChans, Fail> {
+#[test]
+fn each_channel_has_its_verdict(rt: HostRuntime) -> Result<(), Fail> {
+    let alloc = rt.alloc();
     let table = next(
         &first(alloc, &domain(alloc, &country())?)?,
         &domain(alloc, &neighbour())?,
     )?;
-    let mut chans = RadioChans::new(alloc, profile(rt, 80, 2200))?;
+    let mut chans = RadioChans::new(alloc, profile(&rt, 80, 2200))?;
     chans.refresh(&table);
-    Ok(chans)
-}
-
-#[test]
-fn each_refusal_names_its_lowest_subchannel(rt: HostRuntime) -> Result<(), Fail> {
-    let chans = under_both(&rt, rt.alloc())?;
-    let refusals = [
-        // A channel that the radio lacks comes before the rule that is too narrow below it.
-        (
-            channel(2457, Width::W40, 2467),
-            ChanRefusal::LacksChannel(2_477_000),
-        ),
-        (
-            channel(5180, Width::W160, 5250),
-            ChanRefusal::LacksWidth(160),
-        ),
-        (
-            channel(2467, Width::W20, 2467),
-            ChanRefusal::NoRule(2_467_000),
-        ),
-        (
-            channel(2412, Width::W40, 2422),
-            ChanRefusal::TooNarrow(2_412_000),
-        ),
-        (
-            channel(5520, Width::W40, 5510),
-            ChanRefusal::NoOfdm(5_500_000),
-        ),
-        (
-            channel(5745, Width::W20, 5745),
-            ChanRefusal::NoIr(5_745_000),
-        ),
-        (
-            channel(5220, Width::W80, 5210),
-            ChanRefusal::NoOutdoor(5_180_000),
-        ),
-    ];
-    for (c, refusal) in refusals {
-        let found = judged(&rt, &chans, &c, Kind::Ap, false, PowerSetting::Auto);
-        assert!(rt; found == Verdict::Refused(refusal));
-    }
-    Ok(())
-}
-
-#[test]
-fn powers_and_checks_of_two_countries(rt: HostRuntime) -> Result<(), Fail> {
-    let chans = under_both(&rt, rt.alloc())?;
-    // The country's 2300 mBm, the neighbour's 2100 and the radio's 2200.
-    let wide = channel(5220, Width::W80, 5210);
-    let above = Verdict::Refused(ChanRefusal::AboveLimit(2100));
-    let powers = [
-        (PowerSetting::Auto, fits(2100, 0)),
-        (PowerSetting::Limit(1500), fits(1500, 0)),
-        (PowerSetting::Fixed(2100), fits(2100, 0)),
-        (PowerSetting::Fixed(2101), above),
-    ];
-    for (setting, verdict) in powers {
-        let found = judged(&rt, &chans, &wide, Kind::Ap, true, setting);
-        assert!(rt; found == verdict);
-    }
-    // The country checks for ten minutes, the neighbour for one.
-    let checked = channel(5260, Width::W40, 5270);
-    let found = judged(&rt, &chans, &checked, Kind::Mesh, false, PowerSetting::Auto);
-    assert!(rt; found == fits(2000, 600_000));
+    judges(&rt, &chans, &UNDER_BOTH);
     assert!(rt; chans.is_bound(5_260_000) && !chans.is_bound(5_180_000));
-    // A station and a monitor don't send first, so NO-IR doesn't bar them. The power is the radio's.
-    let quiet = channel(5745, Width::Noht, 5745);
-    for kind in [Kind::Station, Kind::Monitor] {
-        let found = judged(&rt, &chans, &quiet, kind, false, PowerSetting::Auto);
-        assert!(rt; found == fits(2200, 0));
-    }
+    let bands = Bands {
+        ghz2: false,
+        ghz5: false,
+        ghz6: true,
+    };
+    let rules = [rule(5925, 7125, 320, 2300, RuleFlags::NONE)];
+    let profile = Profile::new(bands, 320, 0, 3000, 1, false, false).expect(&rt, "a profile");
+    let mut chans = RadioChans::new(alloc, profile)?;
+    chans.refresh(&first(alloc, &domain(alloc, &rules)?)?);
+    judges(&rt, &chans, &OF_320_MHZ);
+    channels_of_320_mhz(&rt);
     Ok(())
 }
 
-#[test]
-fn channels_of_320_mhz(rt: HostRuntime) -> Result<(), Fail> {
+/// Which channels of 320 MHz are valid, the subchannels of one, and the number of their width.
+fn channels_of_320_mhz(rt: &impl Abort) {
     let wide = channel(5955, Width::W320, 6105);
     assert!(rt; !channel(6275, Width::W320, 6105).valid());
     assert!(rt; !channel(5180, Width::W320, 5330).valid());
@@ -222,26 +351,4 @@ fn channels_of_320_mhz(rt: HostRuntime) -> Result<(), Fail> {
     assert!(rt; Width::numbered(13) == Some(Width::W320));
     assert!(rt; Width::numbered(4).is_none());
     assert!(rt; Width::W320.number() == 13);
-    Ok(())
-}
-
-#[test]
-fn verdicts_on_320_mhz(rt: HostRuntime) -> Result<(), Fail> {
-    let bands = Bands {
-        ghz2: false,
-        ghz5: false,
-        ghz6: true,
-    };
-    let rules = [rule(5925, 7125, 320, 2300, RuleFlags::NONE)];
-    let table = first(rt.alloc(), &domain(rt.alloc(), &rules)?)?;
-    let profile = Profile::new(bands, 320, 0, 3000, 1, false, false).expect(&rt, "a profile");
-    let mut chans = RadioChans::new(rt.alloc(), profile)?;
-    chans.refresh(&table);
-    let wide = channel(5955, Width::W320, 6105);
-    let found = judged(&rt, &chans, &wide, Kind::Ap, false, PowerSetting::Auto);
-    assert!(rt; found == fits(2300, 0));
-    let past = channel(7115, Width::W320, 7265);
-    let found = judged(&rt, &chans, &past, Kind::Ap, false, PowerSetting::Auto);
-    assert!(rt; found == Verdict::Refused(ChanRefusal::LacksChannel(7_135_000)));
-    Ok(())
 }

@@ -12,6 +12,13 @@ const CHAN: ChanDef = ChanDef {
     centre_khz: 5_260_000,
 };
 
+/// A check of the first interface.
+const TOLD: CheckTold = CheckTold {
+    iface: IfIndex(1),
+    chan: CHAN,
+    length_ms: 60_000,
+};
+
 const fn entry(iface: u32, power_mbm: u16) -> OnAir {
     OnAir {
         iface: IfIndex(iface),
@@ -31,39 +38,6 @@ fn names(rt: HostRuntime) {
     assert!(rt; !name.is_same(&Name::new(b"!").expect(&rt, "a name")));
 }
 
-#[test]
-fn what_is_on_air(rt: HostRuntime) {
-    let mut driver = SimDriver::new();
-    assert!(rt; driver.start(IfIndex(1), CHAN, 2000).is_ok());
-    assert!(rt; driver.start(IfIndex(2), CHAN, 1000).is_ok());
-    assert!(rt; driver.start(IfIndex(1), CHAN, 1500).is_ok());
-    assert!(rt; driver.on_air() == [entry(1, 1500), entry(2, 1000)].as_slice());
-    driver.set_power(IfIndex(2), 300);
-    driver.stop(IfIndex(1));
-    driver.stop(IfIndex(3));
-    assert!(rt; driver.on_air() == [entry(2, 300)].as_slice());
-    assert!(rt; driver.check_told().is_none());
-}
-
-#[test]
-fn failing_calls(rt: HostRuntime) -> Result<(), Fail> {
-    let mut driver = FailingDriver::new(rt.alloc(), &[1, 4])?;
-    assert!(rt; driver.start(IfIndex(1), CHAN, 2000) == Err(DriverFailed));
-    assert!(rt; driver.on_air().is_empty());
-    assert!(rt; driver.start(IfIndex(1), CHAN, 2000).is_ok());
-    assert!(rt; driver.begin_check(IfIndex(1), CHAN, 60_000).is_ok());
-    let told = CheckTold {
-        iface: IfIndex(1),
-        chan: CHAN,
-        length_ms: 60_000,
-    };
-    assert!(rt; driver.begin_check(IfIndex(2), CHAN, 1) == Err(DriverFailed));
-    assert!(rt; driver.check_told() == Some(told));
-    assert!(rt; driver.on_air() == [entry(1, 2000)].as_slice());
-    assert!(rt; driver.faults() == 2);
-    Ok(())
-}
-
 /// Makes each call once, and tells which of the two that may fail did.
 fn drive(driver: &mut Box<dyn Driver>) -> [bool; 2]
     requires { on_air driver.old ≡ [] }
@@ -76,7 +50,28 @@ fn drive(driver: &mut Box<dyn Driver>) -> [bool; 2]
 }
 
 #[test]
-fn behind_boxes(rt: HostRuntime) -> Result<(), Fail> {
+fn drivers(rt: HostRuntime) -> Result<(), Fail> {
+    let mut driver = SimDriver::new();
+    assert!(rt; driver.start(IfIndex(1), CHAN, 2000).is_ok());
+    assert!(rt; driver.start(IfIndex(2), CHAN, 1000).is_ok());
+    assert!(rt; driver.start(IfIndex(1), CHAN, 1500).is_ok());
+    assert!(rt; driver.on_air() == [entry(1, 1500), entry(2, 1000)].as_slice());
+    driver.set_power(IfIndex(2), 300);
+    driver.stop(IfIndex(1));
+    driver.stop(IfIndex(3));
+    assert!(rt; driver.on_air() == [entry(2, 300)].as_slice());
+    assert!(rt; driver.check_told().is_none());
+
+    let mut driver = FailingDriver::new(rt.alloc(), &[1, 4])?;
+    assert!(rt; driver.start(IfIndex(1), CHAN, 2000) == Err(DriverFailed));
+    assert!(rt; driver.on_air().is_empty());
+    assert!(rt; driver.start(IfIndex(1), CHAN, 2000).is_ok());
+    assert!(rt; driver.begin_check(IfIndex(1), CHAN, 60_000).is_ok());
+    assert!(rt; driver.begin_check(IfIndex(2), CHAN, 1) == Err(DriverFailed));
+    assert!(rt; driver.check_told() == Some(TOLD));
+    assert!(rt; driver.on_air() == [entry(1, 2000)].as_slice());
+    assert!(rt; driver.faults() == 2);
+
     let mut driver: Box<dyn Driver> = Box::new(rt.alloc(), SimDriver::new())?;
     assert!(rt; drive(&mut driver) == [false, false]);
     assert!(rt; driver.faults() == 0);

@@ -17,138 +17,183 @@ const JP: Alpha2 = Alpha2 { a: b'J', b: b'P' };
 
 const DE: Alpha2 = Alpha2 { a: b'D', b: b'E' };
 
+const WORLD: Alpha2 = Alpha2 { a: b'0', b: b'0' };
+
+/// Who hints at a country: a user, or the driver or a country element of the radio with that number.
+#[derive(Clone, Copy)]
+enum By {
+    User,
+    Driver(u32),
+    Element(u32),
+    /// A country element, where there is nothing to hear.
+    Deaf(u32),
+}
+
+/// A hint, or what is wanted of the hints then.
+#[derive(Clone, Copy)]
+enum Step<'a> {
+    /// The hint is answered so.
+    Hint(By, Alpha2, Result<Treatment, TooManyDomains>),
+    /// The global list is this one, and this is the last hint.
+    Are(&'a [Alpha2], By, Alpha2),
+}
+
+const HINTS: [(&str, &[Step<'_>]); 5] = [
+    (
+        "users",
+        &[
+            Step::Hint(By::User, US, Ok(Treatment::Replace)),
+            Step::Hint(By::User, US, Ok(Treatment::Already)),
+            Step::Hint(By::User, GB, Ok(Treatment::Replace)),
+            Step::Are(&[GB], By::User, GB),
+        ],
+    ),
+    (
+        "drivers",
+        &[
+            Step::Hint(By::Driver(0), US, Ok(Treatment::Replace)),
+            Step::Hint(By::Driver(0), US, Ok(Treatment::Already)),
+            Step::Hint(By::User, US, Ok(Treatment::Already)),
+            Step::Hint(By::Driver(1), GB, Ok(Treatment::Intersect)),
+            Step::Hint(By::User, GB, Ok(Treatment::Ignore)),
+            Step::Are(&[US, GB], By::Driver(1), GB),
+        ],
+    ),
+    // a driver's hint at what is there already is the last one all the same
+    (
+        "a driver at the world",
+        &[
+            Step::Hint(By::Driver(3), WORLD, Ok(Treatment::Already)),
+            Step::Are(&[WORLD], By::Driver(3), WORLD),
+        ],
+    ),
+    (
+        "elements",
+        &[
+            Step::Hint(By::Deaf(0), US, Ok(Treatment::Ignore)),
+            Step::Hint(By::User, US, Ok(Treatment::Replace)),
+            Step::Hint(By::Element(0), GB, Ok(Treatment::Replace)),
+            Step::Hint(By::Element(0), GB, Ok(Treatment::Already)),
+            Step::Hint(By::Element(1), GB, Ok(Treatment::Already)),
+            Step::Hint(By::Element(1), US, Ok(Treatment::Ignore)),
+            Step::Hint(By::Element(0), FR, Ok(Treatment::Replace)),
+            Step::Are(&[FR], By::Element(0), FR),
+        ],
+    ),
+    (
+        "at most four domains",
+        &[
+            Step::Hint(By::Element(0), GB, Ok(Treatment::Replace)),
+            Step::Hint(By::User, US, Ok(Treatment::Intersect)),
+            Step::Hint(By::User, GB, Ok(Treatment::Ignore)),
+            Step::Hint(By::Driver(0), FR, Ok(Treatment::Intersect)),
+            Step::Hint(By::Driver(1), JP, Ok(Treatment::Intersect)),
+            Step::Are(&[GB, US, FR, JP], By::Driver(1), JP),
+            Step::Hint(By::Driver(2), DE, Err(TooManyDomains)),
+            Step::Are(&[GB, US, FR, JP], By::Driver(1), JP),
+            Step::Hint(By::Element(2), DE, Ok(Treatment::Replace)),
+            Step::Are(&[DE], By::Element(2), DE),
+        ],
+    ),
+];
+
+const BODY: [u8; 6] = [0x47, 0x42, 0x20, 0x24, 0x04, 0x17];
+
+const BODIES: [(&[u8], Result<Element, ElementFault>); 6] = [
+    (
+        &BODY,
+        Ok(Element {
+            alpha2: GB,
+            environment: 0x20,
+        }),
+    ),
+    (&[0x47, 0x42, 0x20, 0x24, 0x04], Err(ElementFault::Short(5))),
+    (b"GB Iabc", Err(ElementFault::Odd(7))),
+    (b"gb Iabc", Err(ElementFault::Odd(7))),
+    (b"Gb Iab", Err(ElementFault::NotLetters)),
+    (b"00 Iab", Err(ElementFault::NotLetters)),
+];
+
 fn radio(rt: &impl Abort, n: u32) -> RadioNo {
     RadioNo::new(n).expect(rt, "a radio")
 }
 
-fn driver(rt: &impl Abort, n: u32, alpha2: Alpha2) -> Hint {
-    Hint::Driver {
-        radio: radio(rt, n),
-        alpha2,
+fn hint(rt: &impl Abort, by: By, alpha2: Alpha2) -> Hint {
+    match by {
+        By::User => Hint::User(alpha2),
+        By::Driver(n) => Hint::Driver {
+            radio: radio(rt, n),
+            alpha2,
+        },
+        By::Element(n) => Hint::Element {
+            radio: radio(rt, n),
+            alpha2,
+            deaf: false,
+        },
+        By::Deaf(n) => Hint::Element {
+            radio: radio(rt, n),
+            alpha2,
+            deaf: true,
+        },
     }
 }
 
-fn element(rt: &impl Abort, n: u32, alpha2: Alpha2) -> Hint {
-    Hint::Element {
-        radio: radio(rt, n),
-        alpha2,
-        deaf: false,
+/// The last hint by this one, which was no intersection where it is a user's.
+fn last(rt: &impl Abort, by: By, alpha2: Alpha2) -> Last {
+    match by {
+        By::User => Last::User {
+            alpha2,
+            intersected: false,
+        },
+        By::Driver(_) => Last::Driver { alpha2 },
+        By::Element(n) | By::Deaf(n) => Last::Element {
+            radio: radio(rt, n),
+            alpha2,
+        },
     }
 }
 
-/// The hints after these, each of which is treated so; then the global list and the last hint are
-/// these.
-fn after(rt: &impl Abort, treated: &[(Hint, Treatment)], global: &[Alpha2], last: Last) -> Hints {
-    let mut hints = Hints::new();
-    for (k, (hint, treatment)) in treated.iter().enumerate() {
-        assert!(rt; hints.treat(hint) == *treatment, "hint {k}");
-        assert!(rt; hints.apply(hint) == Ok(*treatment), "hint {k}");
+/// Gives the hint, or asks whether the hints are as is wanted.
+fn make(rt: &impl Abort, hints: &mut Hints, name: &str, step: &Step<'_>) {
+    match step {
+        Step::Hint(by, alpha2, wanted) => {
+            let hint = hint(rt, *by, *alpha2);
+            if let Ok(treatment) = wanted {
+                assert!(rt; hints.treat(&hint) == *treatment, "{name}");
+            }
+            assert!(rt; hints.apply(&hint) == *wanted, "{name}");
+        }
+        Step::Are(codes, by, alpha2) => {
+            for (k, code) in codes.iter().enumerate() {
+                assert!(rt; hints.global(k) == Some(*code), "{name}: at {k}");
+            }
+            assert!(rt; hints.global(codes.len()).is_none(), "{name}");
+            assert!(rt; hints.last() == last(rt, *by, *alpha2), "{name}");
+        }
     }
-    has_global(rt, &hints, global);
-    assert!(rt; hints.last() == last);
-    hints
 }
 
-/// The global list is this one.
-fn has_global(rt: &impl Abort, hints: &Hints, codes: &[Alpha2]) {
-    for (k, code) in codes.iter().enumerate() {
-        assert!(rt; hints.global(k) == Some(*code), "at {k}");
+/// The hints are as the steps of each row want it.
+fn are_treated(rt: &impl Abort, rows: &[(&str, &[Step<'_>])]) {
+    for (name, steps) in rows {
+        let mut hints = Hints::new();
+        for step in steps.iter() {
+            make(rt, &mut hints, name, step);
+        }
     }
-    assert!(rt; hints.global(codes.len()).is_none());
 }
 
-#[test]
-fn numbers_of_radios(rt: HostRuntime) {
-    assert!(rt; radio(&rt, 7).get() == 7);
-    assert!(rt; RadioNo::new(8).is_none());
-}
-
-#[test]
-fn users_and_drivers(rt: HostRuntime) {
-    let users = [
-        (Hint::User(US), Treatment::Replace),
-        (Hint::User(US), Treatment::Already),
-        (Hint::User(GB), Treatment::Replace),
-    ];
-    let last = Last::User {
-        alpha2: GB,
-        intersected: false,
-    };
-    after(&rt, &users, &[GB], last);
-
-    let drivers = [
-        (driver(&rt, 0, US), Treatment::Replace),
-        (driver(&rt, 0, US), Treatment::Already),
-        (Hint::User(US), Treatment::Already),
-        (driver(&rt, 1, GB), Treatment::Intersect),
-        (Hint::User(GB), Treatment::Ignore),
-    ];
-    after(&rt, &drivers, &[US, GB], Last::Driver { alpha2: GB });
-
-    // a driver's hint at what is there already is the last one all the same
-    let world = Alpha2 { a: b'0', b: b'0' };
-    let already = [(driver(&rt, 3, world), Treatment::Already)];
-    after(&rt, &already, &[world], Last::Driver { alpha2: world });
-}
-
-#[test]
-fn elements(rt: HostRuntime) {
-    let deaf = Hint::Element {
-        radio: radio(&rt, 0),
-        alpha2: US,
-        deaf: true,
-    };
-    let treated = [
-        (deaf, Treatment::Ignore),
-        (Hint::User(US), Treatment::Replace),
-        (element(&rt, 0, GB), Treatment::Replace),
-        (element(&rt, 0, GB), Treatment::Already),
-        (element(&rt, 1, GB), Treatment::Already),
-        (element(&rt, 1, US), Treatment::Ignore),
-        (element(&rt, 0, FR), Treatment::Replace),
-    ];
-    let last = Last::Element {
-        radio: radio(&rt, 0),
-        alpha2: FR,
-    };
-    after(&rt, &treated, &[FR], last);
-}
-
-#[test]
-fn at_most_four_domains(rt: HostRuntime) {
-    let treated = [
-        (element(&rt, 0, GB), Treatment::Replace),
-        (Hint::User(US), Treatment::Intersect),
-        (Hint::User(GB), Treatment::Ignore),
-        (driver(&rt, 0, FR), Treatment::Intersect),
-        (driver(&rt, 1, JP), Treatment::Intersect),
-    ];
-    let global = [GB, US, FR, JP];
-    let last = Last::Driver { alpha2: JP };
-    let mut hints = after(&rt, &treated, &global, last);
-    assert!(rt; hints.apply(&driver(&rt, 2, DE)) == Err(TooManyDomains));
-    has_global(&rt, &hints, &global);
-    assert!(rt; hints.last() == last);
-    assert!(rt; hints.apply(&element(&rt, 2, DE)) == Ok(Treatment::Replace));
-    has_global(&rt, &hints, &[DE]);
-}
-
-#[test]
-fn bodies_of_elements(rt: HostRuntime) {
-    let body = [0x47, 0x42, 0x20, 0x24, 0x04, 0x17];
-    let element = Element {
-        alpha2: GB,
-        environment: 0x20,
-    };
-    let bodies: [(&[u8], Result<Element, ElementFault>); 6] = [
-        (&body, Ok(element)),
-        (&body[..5], Err(ElementFault::Short(5))),
-        (b"GB Iabc", Err(ElementFault::Odd(7))),
-        (b"gb Iabc", Err(ElementFault::Odd(7))),
-        (b"Gb Iab", Err(ElementFault::NotLetters)),
-        (b"00 Iab", Err(ElementFault::NotLetters)),
-    ];
-    for (k, (body, read)) in bodies.iter().enumerate() {
+/// Each body is read so.
+fn are_read(rt: &impl Abort, rows: &[(&[u8], Result<Element, ElementFault>)]) {
+    for (k, (body, read)) in rows.iter().enumerate() {
         assert!(rt; read_country_element(body) == *read, "body {k}");
     }
+}
+
+#[test]
+fn hints_are_treated(rt: HostRuntime) {
+    assert!(rt; radio(&rt, 7).get() == 7);
+    assert!(rt; RadioNo::new(8).is_none());
+    are_treated(&rt, &HINTS);
+    are_read(&rt, &BODIES);
 }

@@ -1,12 +1,12 @@
-//! Runs of scripts over the database of a text, and the replies that each line has to have.
+//! Runs of scripts over a database file, and the replies that each line has to have.
 
-ghost use Rattle.std.specs.Prelude.{◌≡◌};
+ghost use Rattle.std.specs.Prelude.{◌≡◌, ◌<◌};
 
 use db_commands::Status;
 use db_text::parse;
 use db_writer::layout;
 use radio_drv::{FailingDriver, SimDriver};
-use reg_base::{Bytes, Files, MemFiles, MemSink, MemSource, Sink, Source};
+use reg_base::{Bytes, Files, MemFiles, MemSink, Sink, Source, StdSource};
 use reg_core::Drivers;
 use script_run::{add_driver, run};
 use std::alloc::Global;
@@ -32,6 +32,19 @@ country US: DFS-FCC
 
 /// A line of a script, and its reply.
 pub type Row<'a> = (&'a str, &'a str);
+
+/// A script over the database of a text.
+pub struct Case<'a> {
+    /// What it shows.
+    pub name: &'a str,
+    /// The rule text.
+    pub text: &'a str,
+    /// The calls at which the first driver fails, and how often it does.
+    pub failing: &'a [u64],
+    pub faults: u64,
+    /// The script's lines and their replies.
+    pub rows: &'a [Row<'a>],
+}
 
 /// A copy of the bytes.
 pub fn bytes(alloc: Global, given: &[u8]) -> Result<Bytes, Fail> {
@@ -74,49 +87,32 @@ pub fn call<F: Files, S: Source, K: Sink>(
     Ok((status, faults))
 }
 
-/// What `run` ends with for the script over the database file, and the sink that it wrote to; and how
-/// often the first driver failed, which does so at the listed calls.
-pub fn answered(
-    alloc: Global,
-    file: Bytes,
-    script: &[u8],
-    failing: &[u64],
-) -> Result<(Status, MemSink, u64), Fail> {
-    let mut files = MemFiles::new(alloc, NAME, file)?;
-    let mut input = MemSource::new(bytes(alloc, script)?, 16);
-    let mut out = MemSink::new(alloc, ROOM)?;
-    let (status, faults) = call(alloc, failing, &mut files, &mut input, &mut out)?;
-    Ok((status, out, faults))
-}
-
-/// The lines are answered row by row over the database of the text, where the first driver fails at the
-/// listed calls; and how often it failed.
-pub fn replies(
-    rt: &impl Abort,
-    alloc: Global,
-    text: &str,
-    failing: &[u64],
-    rows: &[Row<'_>],
-) -> Result<u64, Fail> {
-    let mut script = Bytes::new(alloc);
-    for (line, _reply) in rows {
-        script.append(line.as_bytes())?;
-        script.push(b'\n')?;
+/// Each script is answered line by line.
+pub fn replies(rt: &impl Abort, alloc: Global, cases: &[Case<'_>]) -> Result<(), Fail> {
+    for case in cases {
+        let mut script = Bytes::new(alloc);
+        for (line, _reply) in case.rows {
+            script.append(line.as_bytes())?;
+            script.push(b'\n')?;
+        }
+        let mut files = MemFiles::new(alloc, NAME, database(alloc, case.text)?)?;
+        let mut input = StdSource::new(script.as_slice());
+        let mut out = MemSink::new(alloc, ROOM)?;
+        let (status, faults) = call(alloc, case.failing, &mut files, &mut input, &mut out)?;
+        assert!(rt; status == Status::Done, "{}", case.name);
+        assert!(rt; faults == case.faults, "{}", case.name);
+        stand_in_order(rt, case.name, out.written(), case.rows);
     }
-    let file = database(alloc, text)?;
-    let (status, out, faults) = answered(alloc, file, script.as_slice(), failing)?;
-    assert!(rt; status == Status::Done);
-    stand_in_order(rt, out.written(), rows);
-    Ok(faults)
+    Ok(())
 }
 
 /// The bytes are the replies of the rows, one behind the other.
-fn stand_in_order(rt: &impl Abort, written: &[u8], rows: &[Row<'_>]) {
+fn stand_in_order(rt: &impl Abort, name: &str, written: &[u8], rows: &[Row<'_>]) {
     let mut left = written;
     for (line, reply) in rows {
         let rest = left.strip_prefix(reply.as_bytes());
-        assert!(rt; rest.is_some(), "{line}");
+        assert!(rt; rest.is_some(), "{name}: {line}");
         left = rest.unwrap_or(b"");
     }
-    assert!(rt; left.is_empty(), "behind the last line");
+    assert!(rt; left.is_empty(), "{name}: behind the last line");
 }

@@ -1,105 +1,292 @@
-//! Files, scripts and outputs that fail or are too long, and what they leave.
+//! Files, scripts and outputs that fail, are too long or stop short, and what they leave.
 
-use crate::calls::{NAME, ROOM, RULES, answered, bytes, call, database};
+use crate::calls::{NAME, ROOM, RULES, bytes, call, database};
 use db_commands::{InputFault, Status};
-use reg_base::{
-    FailingFiles, FailingSink, FailingSource, Files, MemFiles, MemSink, MemSource, StdSource,
-};
+use reg_base::{Bytes, FailingFiles, FailingSink, FailingSource};
 use rule_tables::DbFault;
 use std::alloc::Global;
 use std::process::Abort;
 use std::test::Fail;
 
-#[test]
-fn a_database_with_a_fault_is_refused(rt: HostRuntime) -> Result<(), Fail> {
-    let files: [(&[u8], DbFault); 2] = [
-        (b"RGDB\0\0\0", DbFault::Short(7)),
-        (b"RGDC\0\0\0\x14", DbFault::BadMagic(0x5247_4443)),
-    ];
-    for (row, (file, fault)) in files.iter().enumerate() {
-        let file = bytes(rt.alloc(), file)?;
-        let (status, out, _faults) = answered(rt.alloc(), file, b"at 5\n", &[])?;
-        assert!(rt;
-            status == Status::Refused(InputFault::Database(*fault)),
-            "row {row}"
-        );
-        assert!(rt; out.written().is_empty(), "row {row}");
+/// What a file or a script holds.
+#[derive(Clone, Copy)]
+enum Content<'a> {
+    /// The database file of the usual rules.
+    Rules,
+    /// These bytes.
+    Bytes(&'a [u8]),
+    /// These bytes, and behind them one byte so often.
+    Padded(&'a [u8], u8, usize),
+}
+
+/// A run of a script over a file and over devices that fail at the listed calls, with its status and its
+/// output.
+#[derive(Clone, Copy)]
+struct Run<'a> {
+    name: &'a str,
+    file_name: &'a str,
+    file: Content<'a>,
+    script: Content<'a>,
+    /// How many bytes of the script a read takes at most.
+    piece: usize,
+    failing_files: &'a [u64],
+    failing_reads: &'a [u64],
+    failing_writes: &'a [u64],
+    status: Status,
+    output: &'a [u8],
+}
+
+const RUNS: [Run<'_>; 18] = [
+    Run {
+        name: "no newline at the end",
+        file_name: NAME,
+        file: Content::Rules,
+        script: Content::Bytes(b"at 5"),
+        piece: 5,
+        failing_files: &[],
+        failing_reads: &[],
+        failing_writes: &[],
+        status: Status::Done,
+        output: b"ok\n",
+    },
+    Run {
+        name: "an empty script",
+        file_name: NAME,
+        file: Content::Rules,
+        script: Content::Bytes(b""),
+        piece: 5,
+        failing_files: &[],
+        failing_reads: &[],
+        failing_writes: &[],
+        status: Status::Done,
+        output: b"",
+    },
+    Run {
+        name: "an empty line",
+        file_name: NAME,
+        file: Content::Rules,
+        script: Content::Bytes(b"\n"),
+        piece: 5,
+        failing_files: &[],
+        failing_reads: &[],
+        failing_writes: &[],
+        status: Status::Done,
+        output: b"",
+    },
+    Run {
+        name: "no newline behind two lines",
+        file_name: NAME,
+        file: Content::Rules,
+        script: Content::Bytes(b"at 5\nat 6"),
+        piece: 5,
+        failing_files: &[],
+        failing_reads: &[],
+        failing_writes: &[],
+        status: Status::Done,
+        output: b"ok\nok\n",
+    },
+    Run {
+        name: "empty lines",
+        file_name: NAME,
+        file: Content::Rules,
+        script: Content::Bytes(b"at 5\n\nat 6\n\n"),
+        piece: 5,
+        failing_files: &[],
+        failing_reads: &[],
+        failing_writes: &[],
+        status: Status::Done,
+        output: b"ok\nok\n",
+    },
+    Run {
+        name: "a last line that is none",
+        file_name: NAME,
+        file: Content::Rules,
+        script: Content::Bytes(b"at 5\nat 6 7"),
+        piece: 5,
+        failing_files: &[],
+        failing_reads: &[],
+        failing_writes: &[],
+        status: Status::Done,
+        output: b"ok\nline fault: unknown word 3\n",
+    },
+    Run {
+        name: "a line of 4096 bytes",
+        file_name: NAME,
+        file: Content::Rules,
+        script: Content::Padded(b"at 5", b' ', 4_092),
+        piece: 5,
+        failing_files: &[],
+        failing_reads: &[],
+        failing_writes: &[],
+        status: Status::Done,
+        output: b"ok\n",
+    },
+    Run {
+        name: "a line of 4097 bytes",
+        file_name: NAME,
+        file: Content::Rules,
+        script: Content::Padded(b"at 5", b' ', 4_093),
+        piece: 5,
+        failing_files: &[],
+        failing_reads: &[],
+        failing_writes: &[],
+        status: Status::Done,
+        output: b"line fault: too long\n",
+    },
+    Run {
+        name: "a script of 16777216 bytes",
+        file_name: NAME,
+        file: Content::Rules,
+        script: Content::Padded(b"", b'\n', 16_777_216),
+        piece: 65_536,
+        failing_files: &[],
+        failing_reads: &[],
+        failing_writes: &[],
+        status: Status::Done,
+        output: b"",
+    },
+    Run {
+        name: "a script of 16777217 bytes",
+        file_name: NAME,
+        file: Content::Rules,
+        script: Content::Padded(b"", b'\n', 16_777_217),
+        piece: 65_536,
+        failing_files: &[],
+        failing_reads: &[],
+        failing_writes: &[],
+        status: Status::TooLong,
+        output: b"",
+    },
+    Run {
+        name: "a file that is too short",
+        file_name: NAME,
+        file: Content::Bytes(b"RGDB\0\0\0"),
+        script: Content::Bytes(b"at 5"),
+        piece: 5,
+        failing_files: &[],
+        failing_reads: &[],
+        failing_writes: &[],
+        status: Status::Refused(InputFault::Database(DbFault::Short(7))),
+        output: b"",
+    },
+    Run {
+        name: "a file that is no database",
+        file_name: NAME,
+        file: Content::Bytes(b"RGDC\0\0\0\x14"),
+        script: Content::Bytes(b"at 5"),
+        piece: 5,
+        failing_files: &[],
+        failing_reads: &[],
+        failing_writes: &[],
+        status: Status::Refused(InputFault::Database(DbFault::BadMagic(0x5247_4443))),
+        output: b"",
+    },
+    Run {
+        name: "no such file",
+        file_name: "other.db",
+        file: Content::Rules,
+        script: Content::Bytes(b"at 5"),
+        piece: 5,
+        failing_files: &[],
+        failing_reads: &[],
+        failing_writes: &[],
+        status: Status::ReadFault,
+        output: b"",
+    },
+    Run {
+        name: "a file that fails",
+        file_name: NAME,
+        file: Content::Rules,
+        script: Content::Bytes(b"at 5"),
+        piece: 5,
+        failing_files: &[1],
+        failing_reads: &[],
+        failing_writes: &[],
+        status: Status::ReadFault,
+        output: b"",
+    },
+    Run {
+        name: "a file of 16777217 bytes",
+        file_name: NAME,
+        file: Content::Padded(b"", 0, 16_777_217),
+        script: Content::Bytes(b"at 5"),
+        piece: 5,
+        failing_files: &[],
+        failing_reads: &[],
+        failing_writes: &[],
+        status: Status::TooLong,
+        output: b"",
+    },
+    Run {
+        name: "the second read fails",
+        file_name: NAME,
+        file: Content::Rules,
+        script: Content::Bytes(b"at 5\nat 6\n"),
+        piece: 5,
+        failing_files: &[],
+        failing_reads: &[2],
+        failing_writes: &[],
+        status: Status::ReadFault,
+        output: b"",
+    },
+    Run {
+        name: "the second write fails",
+        file_name: NAME,
+        file: Content::Rules,
+        script: Content::Bytes(b"at 5\nat 4\n"),
+        piece: 5,
+        failing_files: &[],
+        failing_reads: &[],
+        failing_writes: &[2],
+        status: Status::WriteFault,
+        output: b"ok\n",
+    },
+    // the script has two replies, and lines without one make no write
+    Run {
+        name: "a third write would fail",
+        file_name: NAME,
+        file: Content::Rules,
+        script: Content::Bytes(b"at 5\n\n# 6\n\nat 7\n"),
+        piece: 5,
+        failing_files: &[],
+        failing_reads: &[],
+        failing_writes: &[3],
+        status: Status::Done,
+        output: b"ok\nok\n",
+    },
+];
+
+/// The bytes that the file or the script holds.
+fn held(alloc: Global, content: Content<'_>) -> Result<Bytes, Fail> {
+    match content {
+        Content::Rules => database(alloc, RULES),
+        Content::Bytes(given) => bytes(alloc, given),
+        Content::Padded(front, byte, count) => {
+            let mut whole = bytes(alloc, front)?;
+            let rest = vec![in alloc; byte; count]?;
+            whole.append(rest.as_slice())?;
+            Ok(whole)
+        }
+    }
+}
+
+/// Each run ends with its status, and its output is written then.
+fn end_so(rt: &impl Abort, alloc: Global, runs: &[Run<'_>]) -> Result<(), Fail> {
+    for run in runs {
+        assert!(rt; run.piece > 0, "{}", run.name);
+        let file = held(alloc, run.file)?;
+        let script = held(alloc, run.script)?;
+        let mut files = FailingFiles::new(alloc, run.file_name, file, run.failing_files)?;
+        let mut input = FailingSource::new(alloc, script, run.piece, run.failing_reads)?;
+        let mut out = FailingSink::new(alloc, ROOM, run.failing_writes)?;
+        let (status, _faults) = call(alloc, &[], &mut files, &mut input, &mut out)?;
+        assert!(rt; status == run.status, "{}", run.name);
+        assert!(rt; out.written() == run.output, "{}", run.name);
     }
     Ok(())
 }
 
-/// What `run` ends with over the files; it writes nothing.
-fn stops_at_file<F: Files>(
-    rt: &impl Abort,
-    alloc: Global,
-    files: &mut F,
-    wanted: Status,
-) -> Result<(), Fail> {
-    let mut input = MemSource::new(bytes(alloc, b"at 5\n")?, 16);
-    let mut out = MemSink::new(alloc, ROOM)?;
-    let (status, _faults) = call(alloc, &[], files, &mut input, &mut out)?;
-    assert!(rt; status == wanted);
-    assert!(rt; out.written().is_empty());
-    Ok(())
-}
-
 #[test]
-fn a_file_that_is_not_read_stops_the_run(rt: HostRuntime) -> Result<(), Fail> {
-    let file = database(rt.alloc(), RULES)?;
-    let mut other = MemFiles::new(rt.alloc(), "other.db", file)?;
-    stops_at_file(&rt, rt.alloc(), &mut other, Status::ReadFault)?;
-    let file = database(rt.alloc(), RULES)?;
-    let mut failing = FailingFiles::new(rt.alloc(), NAME, file, &[1])?;
-    stops_at_file(&rt, rt.alloc(), &mut failing, Status::ReadFault)?;
-    let zeros = vec![in rt.alloc(); 0u8; 16_777_217]?;
-    let long = bytes(rt.alloc(), zeros.as_slice())?;
-    let mut files = MemFiles::new(rt.alloc(), NAME, long)?;
-    stops_at_file(&rt, rt.alloc(), &mut files, Status::TooLong)
-}
-
-#[test]
-fn a_script_that_is_not_read_is_not_answered(rt: HostRuntime) -> Result<(), Fail> {
-    let file = database(rt.alloc(), RULES)?;
-    let mut files = MemFiles::new(rt.alloc(), NAME, file)?;
-    let script = bytes(rt.alloc(), b"at 5\nat 6\n")?;
-    let mut input = FailingSource::new(rt.alloc(), script, 5, &[2])?;
-    let mut out = MemSink::new(rt.alloc(), ROOM)?;
-    let (status, _faults) = call(rt.alloc(), &[], &mut files, &mut input, &mut out)?;
-    assert!(rt; status == Status::ReadFault);
-    assert!(rt; out.written().is_empty());
-    Ok(())
-}
-
-#[test]
-fn a_script_has_at_most_16777216_bytes(rt: HostRuntime) -> Result<(), Fail> {
-    for (count, wanted) in [(16_777_216, Status::Done), (16_777_217, Status::TooLong)] {
-        let lines = vec![in rt.alloc(); b'\n'; count]?;
-        let file = database(rt.alloc(), RULES)?;
-        let mut files = MemFiles::new(rt.alloc(), NAME, file)?;
-        let mut input = StdSource::new(lines.as_slice());
-        let mut out = MemSink::new(rt.alloc(), ROOM)?;
-        let (status, _faults) = call(rt.alloc(), &[], &mut files, &mut input, &mut out)?;
-        assert!(rt; status == wanted, "for {count} bytes");
-        assert!(rt; out.written().is_empty(), "for {count} bytes");
-    }
-    Ok(())
-}
-
-// The script has two replies, and in the second row two lines without one, which make no write.
-#[test]
-fn a_failed_write_leaves_the_replies_before_it(rt: HostRuntime) -> Result<(), Fail> {
-    let rows: [(&[u8], u64, Status, &[u8]); 2] = [
-        (b"at 5\nat 4\n", 2, Status::WriteFault, b"ok\n"),
-        (b"at 5\n\n# 6\n\nat 7\n", 3, Status::Done, b"ok\nok\n"),
-    ];
-    for (row, (script, failing, wanted, left)) in rows.iter().enumerate() {
-        let file = database(rt.alloc(), RULES)?;
-        let mut files = MemFiles::new(rt.alloc(), NAME, file)?;
-        let mut input = MemSource::new(bytes(rt.alloc(), script)?, 16);
-        let mut out = FailingSink::new(rt.alloc(), ROOM, &[*failing])?;
-        let (status, _faults) = call(rt.alloc(), &[], &mut files, &mut input, &mut out)?;
-        assert!(rt; status == *wanted, "row {row}");
-        assert!(rt; out.written() == *left, "row {row}");
-    }
-    Ok(())
+fn runs_end_with_their_status(rt: HostRuntime) -> Result<(), Fail> {
+    end_so(&rt, rt.alloc(), &RUNS)
 }

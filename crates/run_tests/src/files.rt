@@ -2,72 +2,64 @@
 
 use crate::calls::{NAME, bytes};
 use reg_base::{DiskFiles, FailingFiles, FileFault, Files, MemFiles};
+use std::alloc::Global;
+use std::process::Abort;
 use std::test::Fail;
 use std::{env, fs, process};
 
-#[test]
-fn a_file_in_memory_is_read_by_its_name(rt: HostRuntime) -> Result<(), Fail> {
-    let content = bytes(rt.alloc(), b"RGDB")?;
-    let mut files = MemFiles::new(rt.alloc(), NAME, content)?;
-    for (name, most, wanted) in [
-        (NAME, 4, Ok(4)),
-        (NAME, 3, Err(FileFault::TooLong)),
-        ("other.db", 4, Err(FileFault::Failed)),
-        ("", 4, Err(FileFault::Failed)),
-        (NAME, u64::MAX, Ok(4)),
-    ] {
-        let read = files.read_file(rt.alloc(), name, most);
-        assert!(rt;
-            read.map(|bytes| bytes.len()) == wanted,
-            "for {name} and {most}"
-        );
-    }
-    assert!(rt; files.faults() == 2);
-    let read = files.read_file(rt.alloc(), NAME, 4)?;
-    assert!(rt; read.as_slice() == b"RGDB".as_slice());
-    Ok(())
-}
+/// A name, the most bytes that are read, and what they are.
+type Read<'a> = (&'a str, u64, Result<&'a [u8], FileFault>);
 
-#[test]
-fn a_failing_file_fails_at_its_calls(rt: HostRuntime) -> Result<(), Fail> {
-    let content = bytes(rt.alloc(), b"RGDB")?;
-    let mut files = FailingFiles::new(rt.alloc(), NAME, content, &[1, 3])?;
-    for (call, wanted) in [
-        (1, Err(FileFault::Failed)),
-        (2, Ok(4)),
-        (3, Err(FileFault::Failed)),
-        (4, Ok(4)),
-    ] {
-        let read = files.read_file(rt.alloc(), NAME, 4);
-        assert!(rt; read.map(|bytes| bytes.len()) == wanted, "at call {call}");
+/// The reads give what stands in the rows, one after another; so many have failed then.
+fn reads<F: Files>(rt: &impl Abort, alloc: Global, files: &mut F, rows: &[Read<'_>], faults: u64) {
+    for (row, (name, most, wanted)) in rows.iter().enumerate() {
+        match files.read_file(alloc, name, *most) {
+            Ok(bytes) => assert!(rt; *wanted == Ok(bytes.as_slice()), "read {row} of {name}"),
+            Err(fault) => assert!(rt; *wanted == Err(fault), "read {row} of {name}"),
+        }
     }
-    assert!(rt; files.faults() == 2);
-    Ok(())
+    assert!(rt; files.faults() == faults);
 }
 
 // `/dev/zero` has no end.
 #[test]
-fn a_file_of_the_system_is_read(rt: HostRuntime) -> Result<(), Fail> {
+fn files_are_read_by_their_names(rt: HostRuntime) -> Result<(), Fail> {
+    let alloc = rt.alloc();
+    let mut in_memory = MemFiles::new(alloc, NAME, bytes(alloc, b"RGDB")?)?;
+    let rows: [Read<'_>; 6] = [
+        (NAME, 4, Ok(b"RGDB")),
+        (NAME, 3, Err(FileFault::TooLong)),
+        ("other.db", 4, Err(FileFault::Failed)),
+        ("", 4, Err(FileFault::Failed)),
+        (NAME, u64::MAX, Ok(b"RGDB")),
+        (NAME, 4, Ok(b"RGDB")),
+    ];
+    reads(&rt, alloc, &mut in_memory, &rows, 2);
+    let mut failing = FailingFiles::new(alloc, NAME, bytes(alloc, b"RGDB")?, &[1, 3])?;
+    let rows: [Read<'_>; 4] = [
+        (NAME, 4, Err(FileFault::Failed)),
+        (NAME, 4, Ok(b"RGDB")),
+        (NAME, 4, Err(FileFault::Failed)),
+        (NAME, 4, Ok(b"RGDB")),
+    ];
+    reads(&rt, alloc, &mut failing, &rows, 2);
     let folder = env::temp_dir(&rt)?;
-    let name = format!(in rt.alloc();
-        "{}/regtool-{}.db",
-        folder.as_str(),
-        process::id(rt.process())
-    )?;
+    let number = process::id(rt.process());
+    let name = format!(in alloc; "{}/regtool-{number}.db", folder.as_str())?;
     fs::write(&rt, name.as_str(), "RGDB")?;
-    let mut files = DiskFiles::new(&rt);
-    let read = files.read_file(rt.alloc(), name.as_str(), 4);
-    let longer = files.read_file(rt.alloc(), name.as_str(), 3);
+    let mut on_disk = DiskFiles::new(&rt);
+    let rows: [Read<'_>; 3] = [
+        (name.as_str(), 4, Ok(b"RGDB")),
+        (name.as_str(), 3, Err(FileFault::TooLong)),
+        ("/dev/zero", 100_000, Err(FileFault::TooLong)),
+    ];
+    reads(&rt, alloc, &mut on_disk, &rows, 0);
     fs::remove_file(&rt, name.as_str())?;
-    assert!(rt; read?.as_slice() == b"RGDB".as_slice());
-    assert!(rt; longer.err() == Some(FileFault::TooLong));
-    let endless = files.read_file(rt.alloc(), "/dev/zero", 100_000);
-    assert!(rt; endless.err() == Some(FileFault::TooLong));
-    assert!(rt; files.faults() == 0);
-    for name in ["/no folder/regulatory.db", "/dev", ""] {
-        let missing = files.read_file(rt.alloc(), name, 4);
-        assert!(rt; missing.err() == Some(FileFault::Failed), "for {name}");
-    }
-    assert!(rt; files.faults() == 3);
+    let rows: [Read<'_>; 3] = [
+        ("/no folder/regulatory.db", 4, Err(FileFault::Failed)),
+        ("/dev", 4, Err(FileFault::Failed)),
+        ("", 4, Err(FileFault::Failed)),
+    ];
+    reads(&rt, alloc, &mut on_disk, &rows, 3);
     Ok(())
 }

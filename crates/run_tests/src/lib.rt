@@ -11,3 +11,5 @@ mod files;
 mod refusals;
 #[cfg(test)]
 mod scripts;
+#[cfg(test)]
+mod swept;

@@ -9,8 +9,8 @@ use Rattle.reg_journal.specs.declared.request.Request.{Request}
 use Rattle.reg_journal.proofs.OneReply.{one-reply}
 use Rattle.reg_core.specs.Stepping.{is_failed}
 use Rattle.iw_commands.specs.Printed.{IsTextOf}
-use Rattle.iw_commands.specs.declared.fault.LineFault.{LineFault}
-use Rattle.iw_commands.proofs.Meanings.{one_meaning}
+use Rattle.line_forms.specs.declared.fault.LineFault.{LineFault}
+use Rattle.line_forms.proofs.Saying.{one_meaning}
 use Rattle.script_run.specs.Output.{Answers, HaveFailed, IsOutput, LineGives, LinesGive, SayingGives}
 
 -- ---- one line more

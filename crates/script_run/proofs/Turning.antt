@@ -3,31 +3,32 @@ use Rattle.std.proofs.Common.{◌≡◌, ℕ, ◌≤◌, ◌⊎◌, Bool, true, 
 use Rattle.std.specs.Io.KnownBytes.{Appends}
 use Rattle.rule_tables.specs.declared.domain.Domain.{Domain}
 use Rattle.chan_def.specs.declared.definition.ChanDef.{ChanDef}
-use Rattle.chan_def.specs.declared.kind.Kind.TheVariants.{Ap}
 use Rattle.radio_drv.specs.Seen.{Seen}
 use Rattle.reg_base.specs.Appended.{AppendsAtMost, AppendsFront}
 use Rattle.reg_base.specs.Causes.{HasCause, Rose}
 use Rattle.reg_journal.specs.Effects.{effects_of}
-use Rattle.reg_journal.specs.Facts.{Fact, Journal, started}
-use Rattle.reg_journal.specs.Permits.{IsPowerOf}
+use Rattle.reg_journal.specs.Facts.{Fact, Journal, check_begun, started}
+use Rattle.reg_journal.specs.Permits.{IsLengthOf, IsPowerOf}
 use Rattle.reg_journal.specs.Present.{Iface, named}
-use Rattle.reg_journal.specs.Replies.{Decides, Gives, OnNamed, Steps, Sweeps}
+use Rattle.reg_hints.specs.Element.{IsElement}
+use Rattle.reg_hints.specs.declared.element.Element.{Element}
+use Rattle.reg_journal.specs.Replies.{Decides, Gives, Hints, OnNamed, element_hint, Steps, Sweeps}
 use Rattle.reg_journal.specs.declared.refusal.Refusal.{Refusal}
 use Rattle.reg_journal.specs.declared.refusal.Refusal.TheVariants.{NotBuilt}
 use Rattle.reg_journal.specs.declared.reply.Answer.{Answer}
-use Rattle.reg_journal.specs.declared.reply.Answer.TheVariants.{Refused, Started}
+use Rattle.reg_journal.specs.declared.reply.Answer.TheVariants.{Checking, Refused, Started}
 use Rattle.reg_journal.specs.declared.reply.Reply.{Reply}
 use Rattle.reg_journal.specs.declared.reply.Reply.TheVariants.{Plain}
 use Rattle.reg_journal.specs.declared.request.Request.{Request}
-use Rattle.reg_journal.specs.declared.request.Request.TheVariants.{At, RadioAdd, UserHint, IfaceAdd, Start, Stop}
+use Rattle.reg_journal.specs.declared.request.Request.TheVariants.{At, RadioAdd, Element as HeardElement, UserHint, Radar, Indoor, IfaceAdd, Start, Stop, Check}
 use Rattle.reg_core.specs.DriverRows.{driven_radio, told_after}
 use Rattle.reg_core.specs.Kept.{StandsFor}
 use Rattle.reg_core.specs.Stepping.{IsBuilt, IsReady, IsStep, is_failed}
 use Rattle.reg_core.specs.declared.core_state.Core.{Core}
-use Rattle.iw_commands.specs.Lines.{Says}
+use Rattle.line_forms.specs.Lines.{Says}
 use Rattle.iw_commands.specs.Printed.{AppendsTextOf, IsPlain, IsTextOf, line_fault_text}
 use Rattle.iw_commands.specs.Scripts.{script_lines}
-use Rattle.iw_commands.specs.declared.fault.LineFault.{LineFault}
+use Rattle.line_forms.specs.declared.fault.LineFault.{LineFault}
 use Rattle.db_commands.specs.Devices.{StreamAround, HasFault, DriversAround}
 use Rattle.script_run.specs.Driven.{AreTold, Follow, HaveGoneOn, IsAt}
 use Rattle.script_run.specs.Output.{HaveFailed, LineGives, LinesGive}
@@ -65,13 +66,24 @@ plain_started : (db : List Domain) (J : Journal) (c : ChanDef) (x : Iface) (repl
     → (power : ℕ) × IsPowerOf db J x c power × Gives (Started power) (started x.index c power ∷ []) reply facts → IsPlain reply
 plain_started db J c x reply facts (power, is, given) = plain_gives _ _ reply facts given
 
+plain_checked : (db : List Domain) (J : Journal) (c : ChanDef) (x : Iface) (reply : Reply) (facts : List Fact)
+    → (length : ℕ) × IsLengthOf db J x c length × Gives (Checking length) (check_begun x.index c length ∷ []) reply facts → IsPlain reply
+plain_checked db J c x reply facts (length, is, given) = plain_gives _ _ reply facts given
+
+plain_heard : (db : List Domain) (J : Journal) (r : ℕ) (body : List ℕ) (reply : Reply) (facts : List Fact) → (e : Element) × IsElement body e × Hints db J (element_hint J r e.alpha2) reply facts → IsPlain reply
+plain_heard db J r body reply facts (e, its, hints) = plain_decided _ _ (plain_sweeps db J _ _ _) reply facts hints
+
 plain_reply : (db : List Domain) (J : Journal) (q : Request) (failed : Bool) (reply : Reply) (next : Journal) → IsBuilt db J q → Steps db J q failed reply next → IsPlain reply
 plain_reply db J (At moment) failed reply next built (facts, is, here) = plain_decided _ _ (plain_gives _ _) reply facts is
 plain_reply db J (RadioAdd r profile) failed reply next built (facts, is, here) = plain_decided _ _ (plain_gives _ _) reply facts is
+plain_reply db J (HeardElement r body) failed reply next built (facts, is, here) = plain_decided _ _ (plain_heard db J r body) reply facts is
 plain_reply db J (UserHint a) failed reply next built (facts, is, here) = plain_decided _ _ (plain_sweeps db J _ _ _) reply facts is
+plain_reply db J (Radar r c) failed reply next built (facts, is, here) = plain_decided _ _ (plain_sweeps db J _ _ _) reply facts is
+plain_reply db J (Indoor on) failed reply next built (facts, is, here) = plain_sweeps db J _ _ _ reply facts is
 plain_reply db J (IfaceAdd r name kind) failed reply next built (facts, is, here) = plain_decided _ _ (plain_gives _ _) reply facts is
-plain_reply db J (Start name Ap c) failed reply next built (facts, is, here) = plain_decided _ _ (plain_on_named J name _ (plain_started db J c)) reply facts is
-plain_reply db J (Stop name Ap) failed reply next built (facts, is, here) = plain_decided _ _ (plain_on_named J name _ (λ x. plain_gives _ _)) reply facts is
+plain_reply db J (Start name kind c) failed reply next built (facts, is, here) = plain_decided _ _ (plain_on_named J name _ (plain_started db J c)) reply facts is
+plain_reply db J (Check name c) failed reply next built (facts, is, here) = plain_decided _ _ (plain_on_named J name _ (plain_checked db J c)) reply facts is
+plain_reply db J (Stop name kind) failed reply next built (facts, is, here) = plain_decided _ _ (plain_on_named J name _ (λ x. plain_gives _ _)) reply facts is
 plain_reply db J q failed reply next built steps = absurd built
 
 pub plain_step : (old new : Core) (q : Request) (heard heard' : List (Option Seen)) (reply : Reply) → IsReady old heard
@@ -111,7 +123,7 @@ turn_asked db J line text q reply old new heard heard' says (inl (built, one)) i
     told_then : AreTold one.next heard'
     told_then r s within there =
         let (t, before, goes) = taken _ _ (one.drivers r s there) in
-        goes.told ∙ ap (λ k. told_after J q reply r k) (here.told r t within before) ∙ told_next r db J q (is_failed reply) reply one.next built one.steps
+        goes.told ∙ ap (λ k. told_after J q reply r k) (here.told r t within before) ∙ told_next r db J q (is_failed reply) reply one.next here.stands.keeps.due built one.steps
 turn_asked db J line text q reply old new heard heard' says (inr (unbuilt, off)) is here = record {
   failed = [];
   next = J;

@@ -10,10 +10,10 @@ use Rattle.reg_journal.specs.declared.reply.Reply.TheVariants.{Plain}
 use Rattle.reg_journal.specs.declared.request.Request.{Request}
 use Rattle.reg_core.specs.DriverRows.{driven_radio}
 use Rattle.reg_core.specs.Stepping.{IsBuilt, is_failed}
-use Rattle.iw_commands.specs.Lines.{Says}
+use Rattle.line_forms.specs.Lines.{Says}
 use Rattle.iw_commands.specs.Printed.{IsTextOf, line_fault_text}
 use Rattle.iw_commands.specs.Scripts.{script_lines}
-use Rattle.iw_commands.specs.declared.fault.LineFault.{LineFault}
+use Rattle.line_forms.specs.declared.fault.LineFault.{LineFault}
 
 -- ---- a request
 

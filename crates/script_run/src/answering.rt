@@ -13,7 +13,7 @@ ghost use Rattle.script_run.specs.Run.{IsAnswering};
 ghost use Rattle.script_run.specs.inner.Turns.{IsTurn};
 
 use db_commands::Status;
-use iw_commands::{Lines, put_fault, put_reply, read_line};
+use iw_commands::{Lines, ReadLineFault, put_fault, put_reply, read_line};
 use reg_base::{Bytes, Failed, Sink};
 use reg_core::{Core, DriverRow};
 use reg_lists::OutOfMemory;
@@ -70,13 +70,14 @@ fn answer_line<D: DriverRow>(
     ensures ready { IsReady core.new (D.seen drivers.new) }
 {
     text.clear();
-    match read_line(line) {
+    match read_line(text.allocator(), line) {
         Ok(None) => Ok(()),
         Ok(Some(request)) => match core.step(&request, drivers) {
             Ok(reply) => put_reply(text, &reply),
             Err(_no_memory) => Err(OutOfMemory),
         },
-        Err(fault) => put_fault(text, &fault),
+        Err(ReadLineFault::Line(fault)) => put_fault(text, &fault),
+        Err(ReadLineFault::OutOfMemory) => Err(OutOfMemory),
     }
 }
 

@@ -5,8 +5,8 @@ use db_commands::{InputFault, Status};
 use db_text::{TextFault, TextKind};
 use radio_drv::SimDriver;
 use reg_base::{
-    Bytes, FailingFiles, FailingSink, FailingSource, Files, MemFiles, MemSink, MemSource, Sink,
-    Source, StdSink, StdSource,
+    Bytes, FailingFiles, FailingSink, FailingSource, Files, MemFiles, Sink, Source, StdSink,
+    StdSource,
 };
 use reg_core::Drivers;
 use rule_tables::DbFault;
@@ -84,152 +84,285 @@ fn call<F: Files, S: Source, K: Sink>(
     Ok(status)
 }
 
-/// The program ends so on the words of the line over the input and that database file, and writes that.
-fn ends(
-    rt: &impl Abort,
-    alloc: Global,
-    line: &str,
-    file: &[u8],
-    input: &[u8],
-    wanted: Status,
-    output: &[u8],
-) -> Result<(), Fail> {
-    let mut files = MemFiles::new(alloc, NAME, bytes(alloc, file)?)?;
-    let mut input = MemSource::new(bytes(alloc, input)?, 16);
-    let mut out = MemSink::new(alloc, ROOM)?;
-    let status = call(alloc, line, &mut files, &mut input, &mut out)?;
-    assert!(rt; status == wanted, "for {line}");
-    assert!(rt; out.written() == output, "for {line}");
-    Ok(())
+/// What the program reads.
+#[derive(Clone, Copy)]
+enum Input<'a> {
+    Bytes(&'a [u8]),
+    Newlines(usize),
 }
 
-#[test]
-fn each_command_writes_its_output(rt: HostRuntime) -> Result<(), Fail> {
-    let noted = b"US rule 0: governs 2412 MHz\n1 countries, 1 rules, 0 without a channel\n";
-    let rows: [(&str, &[u8], &[u8]); 5] = [
-        ("compile", US, &US_FILE),
-        ("decompile", &US_FILE, US),
-        ("check", &US_FILE, b"1 countries, 1 rules\n"),
-        ("lint", &US_FILE, noted),
-        ("run regulatory.db", SCRIPT, REPLIES),
-    ];
-    for (line, input, output) in rows {
-        ends(&rt, rt.alloc(), line, &US_FILE, input, Status::Done, output)?;
-    }
-    Ok(())
-}
+/// A call of the program: the words of its line, a database file and an input; which read of the file, read of
+/// the input and write fails, counted from 1, or 0 for none; and what the call ends with and has written then.
+type Call<'a> = (&'a str, &'a [u8], Input<'a>, [u64; 3], Status, &'a [u8]);
 
-#[test]
-fn other_words_are_usage(rt: HostRuntime) -> Result<(), Fail> {
-    for line in [
-        "",
-        "compile x",
-        "compile check",
-        "check check",
-        "CHECK",
-        "checks",
-        "run",
-        "run regulatory.db script",
-        "RUN regulatory.db",
-        "runs regulatory.db",
-        "regulatory.db run",
-    ] {
-        ends(&rt, rt.alloc(), line, &US_FILE, US, Status::Usage, b"")?;
-    }
-    Ok(())
-}
+/// The first bytes of a file, which are none of a database.
+const SHORT: &[u8] = b"RGDB\0\0\0";
 
-#[test]
-fn what_is_not_accepted_is_refused(rt: HostRuntime) -> Result<(), Fail> {
-    let bad_flag = InputFault::Text(TextFault {
-        line: 2,
-        kind: TextKind::BadFlag,
-    });
-    let short = InputFault::Database(DbFault::Short(7));
-    let faulty = b"country US: DFS-FCC\n(2400 - 2472 @ 40), (30), LOUD\n";
-    let rows: [(&str, &[u8], InputFault); 4] = [
-        ("compile", faulty, bad_flag),
-        ("decompile", &US_FILE[..7], short),
-        ("check", &US_FILE[..7], short),
-        ("run regulatory.db", SCRIPT, short),
-    ];
-    for (line, input, fault) in rows {
-        let wanted = Status::Refused(fault);
-        ends(&rt, rt.alloc(), line, &US_FILE[..7], input, wanted, b"")?;
-    }
-    Ok(())
-}
-
-#[test]
-fn a_failed_read_is_told(rt: HostRuntime) -> Result<(), Fail> {
-    for line in ["compile", "run regulatory.db"] {
-        let mut files = MemFiles::new(rt.alloc(), NAME, bytes(rt.alloc(), &US_FILE)?)?;
-        let text = bytes(rt.alloc(), US)?;
-        let mut input = FailingSource::new(rt.alloc(), text, 20, &[2])?;
-        let mut out = MemSink::new(rt.alloc(), ROOM)?;
-        let status = call(rt.alloc(), line, &mut files, &mut input, &mut out)?;
-        assert!(rt; status == Status::ReadFault, "for {line}");
-        assert!(rt; out.written().is_empty(), "for {line}");
-    }
-    Ok(())
-}
-
-#[test]
-fn a_file_that_is_not_read_is_told(rt: HostRuntime) -> Result<(), Fail> {
-    let file = bytes(rt.alloc(), &US_FILE)?;
-    let mut files = FailingFiles::new(rt.alloc(), NAME, file, &[1])?;
-    let mut input = MemSource::new(bytes(rt.alloc(), SCRIPT)?, 16);
-    let mut out = MemSink::new(rt.alloc(), ROOM)?;
-    let status = call(
-        rt.alloc(),
-        "run regulatory.db",
-        &mut files,
-        &mut input,
-        &mut out,
-    )?;
-    assert!(rt; status == Status::ReadFault);
-    assert!(rt; out.written().is_empty());
-    ends(
-        &rt,
-        rt.alloc(),
-        "run other.db",
+const CALLS: [Call<'_>; 28] = [
+    (
+        "compile",
         &US_FILE,
-        SCRIPT,
+        Input::Bytes(US),
+        [0, 0, 0],
+        Status::Done,
+        &US_FILE,
+    ),
+    (
+        "decompile",
+        &US_FILE,
+        Input::Bytes(&US_FILE),
+        [0, 0, 0],
+        Status::Done,
+        US,
+    ),
+    (
+        "check",
+        &US_FILE,
+        Input::Bytes(&US_FILE),
+        [0, 0, 0],
+        Status::Done,
+        b"1 countries, 1 rules\n",
+    ),
+    (
+        "lint",
+        &US_FILE,
+        Input::Bytes(&US_FILE),
+        [0, 0, 0],
+        Status::Done,
+        b"US rule 0: governs 2412 MHz\n1 countries, 1 rules, 0 without a channel\n",
+    ),
+    (
+        "run regulatory.db",
+        &US_FILE,
+        Input::Bytes(SCRIPT),
+        [0, 0, 0],
+        Status::Done,
+        REPLIES,
+    ),
+    // other words
+    (
+        "",
+        &US_FILE,
+        Input::Bytes(US),
+        [0, 0, 0],
+        Status::Usage,
+        b"",
+    ),
+    (
+        "compile x",
+        &US_FILE,
+        Input::Bytes(US),
+        [0, 0, 0],
+        Status::Usage,
+        b"",
+    ),
+    (
+        "compile check",
+        &US_FILE,
+        Input::Bytes(US),
+        [0, 0, 0],
+        Status::Usage,
+        b"",
+    ),
+    (
+        "check check",
+        &US_FILE,
+        Input::Bytes(US),
+        [0, 0, 0],
+        Status::Usage,
+        b"",
+    ),
+    (
+        "CHECK",
+        &US_FILE,
+        Input::Bytes(US),
+        [0, 0, 0],
+        Status::Usage,
+        b"",
+    ),
+    (
+        "checks",
+        &US_FILE,
+        Input::Bytes(US),
+        [0, 0, 0],
+        Status::Usage,
+        b"",
+    ),
+    (
+        "run",
+        &US_FILE,
+        Input::Bytes(US),
+        [0, 0, 0],
+        Status::Usage,
+        b"",
+    ),
+    (
+        "run regulatory.db script",
+        &US_FILE,
+        Input::Bytes(US),
+        [0, 0, 0],
+        Status::Usage,
+        b"",
+    ),
+    (
+        "RUN regulatory.db",
+        &US_FILE,
+        Input::Bytes(US),
+        [0, 0, 0],
+        Status::Usage,
+        b"",
+    ),
+    (
+        "runs regulatory.db",
+        &US_FILE,
+        Input::Bytes(US),
+        [0, 0, 0],
+        Status::Usage,
+        b"",
+    ),
+    (
+        "regulatory.db run",
+        &US_FILE,
+        Input::Bytes(US),
+        [0, 0, 0],
+        Status::Usage,
+        b"",
+    ),
+    // what is not accepted
+    (
+        "compile",
+        &US_FILE,
+        Input::Bytes(b"country US: DFS-FCC\n(2400 - 2472 @ 40), (30), LOUD\n"),
+        [0, 0, 0],
+        Status::Refused(InputFault::Text(TextFault {
+            line: 2,
+            kind: TextKind::BadFlag,
+        })),
+        b"",
+    ),
+    (
+        "decompile",
+        &US_FILE,
+        Input::Bytes(SHORT),
+        [0, 0, 0],
+        Status::Refused(InputFault::Database(DbFault::Short(7))),
+        b"",
+    ),
+    (
+        "check",
+        &US_FILE,
+        Input::Bytes(SHORT),
+        [0, 0, 0],
+        Status::Refused(InputFault::Database(DbFault::Short(7))),
+        b"",
+    ),
+    (
+        "run regulatory.db",
+        SHORT,
+        Input::Bytes(SCRIPT),
+        [0, 0, 0],
+        Status::Refused(InputFault::Database(DbFault::Short(7))),
+        b"",
+    ),
+    // a read that fails, and a file that is not read
+    (
+        "compile",
+        &US_FILE,
+        Input::Bytes(US),
+        [0, 2, 0],
         Status::ReadFault,
         b"",
-    )
+    ),
+    (
+        "run regulatory.db",
+        &US_FILE,
+        Input::Bytes(US),
+        [0, 2, 0],
+        Status::ReadFault,
+        b"",
+    ),
+    (
+        "run regulatory.db",
+        &US_FILE,
+        Input::Bytes(SCRIPT),
+        [1, 0, 0],
+        Status::ReadFault,
+        b"",
+    ),
+    (
+        "run other.db",
+        &US_FILE,
+        Input::Bytes(SCRIPT),
+        [0, 0, 0],
+        Status::ReadFault,
+        b"",
+    ),
+    // a write that fails: a conversion writes once, and the second write is that of a script's second reply
+    (
+        "compile",
+        &US_FILE,
+        Input::Bytes(US),
+        [0, 0, 1],
+        Status::WriteFault,
+        b"",
+    ),
+    (
+        "run regulatory.db",
+        &US_FILE,
+        Input::Bytes(SCRIPT),
+        [0, 0, 2],
+        Status::WriteFault,
+        b"ok\n",
+    ),
+    // an input of more than 16777216 bytes
+    (
+        "compile",
+        &US_FILE,
+        Input::Newlines(16_777_217),
+        [0, 0, 0],
+        Status::TooLong,
+        b"",
+    ),
+    (
+        "run regulatory.db",
+        &US_FILE,
+        Input::Newlines(16_777_217),
+        [0, 0, 0],
+        Status::TooLong,
+        b"",
+    ),
+];
+
+/// The bytes of the input.
+fn read(alloc: Global, input: Input<'_>) -> Result<Bytes, Fail> {
+    match input {
+        Input::Bytes(given) => bytes(alloc, given),
+        Input::Newlines(count) => {
+            let lines = vec![in alloc; b'\n'; count]?;
+            bytes(alloc, lines.as_slice())
+        }
+    }
 }
 
-// The second write is that of a script's second reply; a conversion writes once.
-#[test]
-fn a_failed_write_is_told(rt: HostRuntime) -> Result<(), Fail> {
-    let rows: [(&str, &[u8], u64, &[u8]); 2] = [
-        ("compile", US, 1, b""),
-        ("run regulatory.db", SCRIPT, 2, b"ok\n"),
-    ];
-    for (line, input, failing, left) in rows {
-        let mut files = MemFiles::new(rt.alloc(), NAME, bytes(rt.alloc(), &US_FILE)?)?;
-        let mut input = MemSource::new(bytes(rt.alloc(), input)?, 16);
-        let mut out = FailingSink::new(rt.alloc(), ROOM, &[failing])?;
-        let status = call(rt.alloc(), line, &mut files, &mut input, &mut out)?;
-        assert!(rt; status == Status::WriteFault, "for {line}");
-        assert!(rt; out.written() == left, "for {line}");
+/// Each call ends with its status and has written its output.
+fn end_so(rt: &impl Abort, alloc: Global, calls: &[Call<'_>]) -> Result<(), Fail> {
+    for (row, (line, file, input, failing, wanted, output)) in calls.iter().enumerate() {
+        let [of_files, of_reads, of_writes] = *failing;
+        let file = bytes(alloc, file)?;
+        let read = read(alloc, *input)?;
+        let mut files = FailingFiles::new(alloc, NAME, file, &[of_files])?;
+        let mut input = FailingSource::new(alloc, read, 20, &[of_reads])?;
+        let mut out = FailingSink::new(alloc, ROOM, &[of_writes])?;
+        let status = call(alloc, line, &mut files, &mut input, &mut out)?;
+        assert!(rt; status == *wanted, "row {row}");
+        assert!(rt; out.written() == *output, "row {row}");
     }
     Ok(())
 }
 
 #[test]
-fn an_input_has_at_most_16777216_bytes(rt: HostRuntime) -> Result<(), Fail> {
-    let lines = vec![in rt.alloc(); b'\n'; 16_777_217]?;
-    for line in ["compile", "run regulatory.db"] {
-        let mut files = MemFiles::new(rt.alloc(), NAME, bytes(rt.alloc(), &US_FILE)?)?;
-        let mut input = StdSource::new(lines.as_slice());
-        let mut out = MemSink::new(rt.alloc(), ROOM)?;
-        let status = call(rt.alloc(), line, &mut files, &mut input, &mut out)?;
-        assert!(rt; status == Status::TooLong, "for {line}");
-        assert!(rt; out.written().is_empty(), "for {line}");
-    }
-    Ok(())
+fn each_call_has_its_status_and_its_output(rt: HostRuntime) -> Result<(), Fail> {
+    end_so(&rt, rt.alloc(), &CALLS)
 }
 
 #[test]
