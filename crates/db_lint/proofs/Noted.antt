@@ -1,15 +1,14 @@
 -- The least channel of a kind, and the notes on rules.
-use Rattle.std.proofs.Common.{◌≡◌, ℕ, ◌+◌, ◌<◌, ◌≤◌, List, [], ◌∷◌, ◌++◌, length, get_or, slice_get, take, Contains, Option, Some, None, arith, refl, sym, ap, ◌∙◌, subst, inl, inr, IsTrue, nat_eq, nat_lt, Bool, true, eq-eqb, ◌↔◌}
+use Rattle.std.proofs.Common.{◌≡◌, ℕ, ◌+◌, ◌<◌, ◌≤◌, List, [], ◌∷◌, ◌++◌, length, get_or, slice_get, take, Contains, Option, Some, None, arith, refl, sym, ap, ◌∙◌, subst, inl, inr, IsTrue, nat_lt, Bool, true, ◌↔◌}
 use Rattle.std.specs.Prelude.{MatchOption}
 use Rattle.std.proofs.lemmas.Bool.Decides.{nat_tests}
 use Rattle.std.proofs.lemmas.Option.{get_or_from_slice_get, slice_get_within}
-use Rattle.freq_range.proofs.Firsts.{IsFirst-unique}
 use Rattle.std.proofs.lemmas.Bool.{cases_lt}
 use Rattle.std.proofs.lemmas.List.{append_assoc, append-nil, get_or_append_left, get_or_at, get_or_default, length-append, take_more}
 use Rattle.freq_range.specs.Ascending.{AreAllAscending}
 use Rattle.freq_range.specs.Channels.{IsCentre}
 use Rattle.freq_range.specs.declared.rule.Rule.{Rule}
-use Rattle.rule_tables.specs.Governing.{Governs, HoldsAt, NoneGoverns, RuleHolds}
+use Rattle.rule_tables.specs.Governing.{Governs, NoneGoverns, RuleHolds}
 use Rattle.rule_tables.specs.Width.{IsAllowedWidth}
 use Rattle.rule_tables.specs.declared.domain.Domain.{Domain}
 use Rattle.db_lint.specs.Notes.{AreFirstNotes, AreNotes, IsHiddenBy, IsLeastChannel, IsNote}
@@ -21,16 +20,6 @@ use Rattle.db_lint.specs.declared.notes.RuleNote.{RuleNote}
 pub none_governs : (rules : List Rule) (khz k : ℕ) → NoneGoverns rules khz → Governs rules khz k → ⊥
 none_governs [] khz k none is = let in_range = is.here.0 in omega (arith, in_range)
 none_governs (rule ∷ rules) khz k none is = none k rule is.here.0 (is.here.1 rule)
-
-same_from_test : (a b : ℕ) → nat_eq a b ≡ true → a ≡ b
-same_from_test a b test = grind (arith, nat_tests)
-
--- whether the governing rule is this one
-pub governs_or_not : (rules : List Rule) (khz first k : ℕ) → Governs rules khz first → (IsTrue (nat_eq first k) → Governs rules khz k) × (Governs rules khz k → IsTrue (nat_eq first k))
-governs_or_not rules khz first k is = (
-  λ test. subst (Governs rules khz) (same_from_test first k test) is,
-  λ other. eq-eqb first k (IsFirst-unique (HoldsAt rules khz) first k is other),
-)
 
 -- the rule that governs a channel which one of the rules holds
 pub hides : (rules : List Rule) (khz : ℕ) (o : Option ℕ) → HeldByOne rules (Some khz) → MatchOption o (NoneGoverns rules khz) (Governs rules khz) → IsHiddenBy rules None (Some khz) o

@@ -1,35 +1,33 @@
 //! The least channel of a kind.
 
-ghost use Rattle.std.specs.Prelude.{◌↔◌, IsTrue};
+ghost use Rattle.std.specs.Prelude.{IfOk};
 ghost use Rattle.freq_range.specs.Ascending.{AreAllAscending};
 ghost use Rattle.freq_range.specs.Channels.{IsCentre};
-ghost use Rattle.rule_tables.specs.Governing.{Governs, RuleHolds};
+ghost use Rattle.rule_tables.specs.Governing.{RuleHolds};
 ghost use Rattle.db_lint.specs.Notes.{IsLeastChannel};
+ghost use Rattle.db_lint.specs.inner.Leasts.{AreLeasts};
 
 use freq_range::{Range, Rule};
+use reg_lists::OutOfMemory;
 use rule_tables::{Domain, governing};
+use std::alloc::Global;
 
-/// Whether rule `k` of the domain governs the channel round this centre, in kHz.
-fn governs(domain: &Domain, k: usize, centre_khz: u32) -> bool
-    ensures governs { IsTrue result ↔ Governs domain.now.rules centre_khz k }
-{
-    match governing(domain, centre_khz) {
-        Some(first) => first == k,
-        None => false,
-    }
-}
-
-/// The least of all channels that rule `k` of the domain governs.
-pub fn least_governed(domain: &Domain, k: usize, channels: &[u32]) -> Option<u32>
+/// The least of all channels that each rule of the domain governs. Each channel is asked once.
+pub fn leasts_governed(
+    alloc: Global,
+    domain: &Domain,
+    channels: &[u32],
+) -> Result<Vec<Option<u32>>, OutOfMemory>
     requires channels { AreAllAscending IsCentre channels.now }
-    ensures least { IsLeastChannel (λ khz. Governs domain.now.rules khz k) result }
+    ensures leasts { IfOk result (λ leasts. AreLeasts domain.now.rules leasts.items) }
 {
+    let mut leasts = vec![in alloc; None; domain.rules.len()]?;
     for khz in channels {
-        if governs(domain, k, *khz) {
-            return Some(*khz);
+        if let Some(k) = governing(domain, *khz) {
+            leasts[k] = leasts[k].or(Some(*khz));
         }
     }
-    None
+    Ok(leasts)
 }
 
 /// The least of all channels that the rule's range holds.

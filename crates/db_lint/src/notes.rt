@@ -3,15 +3,18 @@
 ghost use Rattle.std.specs.Prelude.{◌≡◌, ◌<◌, ◌≤◌, ◌↔◌, ◌++◌, IfOk, IsTrue, List, OnOk, length};
 ghost use Rattle.freq_range.specs.Ascending.{AreAllAscending};
 ghost use Rattle.freq_range.specs.Channels.{IsCentre};
-ghost use Rattle.db_lint.specs.Notes.{AreFirstNotes, AreNotes, IsHiddenBy, IsNote};
+ghost use Rattle.rule_tables.specs.Governing.{Governs};
+ghost use Rattle.rule_tables.specs.Width.{AreAllowedWidths, IsAllowedWidth};
+ghost use Rattle.db_lint.specs.Notes.{AreFirstNotes, AreNotes, IsHiddenBy, IsLeastChannel, IsNote};
 ghost use Rattle.db_lint.specs.inner.Held.{HeldByOne};
+ghost use Rattle.db_lint.specs.inner.Leasts.{AreLeasts};
 ghost use Rattle.db_lint.specs.declared.notes.RuleNote.{RuleNote};
 
-use crate::least::{least_governed, least_held};
+use crate::least::{least_held, leasts_governed};
 use crate::rule_at::rule_of;
 use freq_range::{Rule, all_channels};
 use reg_lists::{OutOfMemory, Seq};
-use rule_tables::{Alpha2, Db, Domain, allowed_width, governing};
+use rule_tables::{Alpha2, Db, Domain, allowed_widths, governing};
 use std::alloc::Global;
 
 /// What stands out in a rule. Nothing of it need be a mistake.
@@ -56,15 +59,22 @@ fn hidden_by(domain: &Domain, least: Option<u32>, held: Option<u32>) -> Option<u
     }
 }
 
-/// The note on rule `k` of the domain.
-fn note_on(domain: &Domain, k: usize, channels: &[u32]) -> RuleNote
+/// The note on rule `k` of the domain, which allows this width, in kHz, and governs this channel
+/// first, by its centre in kHz.
+fn note_on(
+    domain: &Domain,
+    k: usize,
+    width_khz: u32,
+    least: Option<u32>,
+    channels: &[u32],
+) -> RuleNote
     requires in_range { k < length domain.now.rules }
+    requires width { IsAllowedWidth domain.now.rules k width_khz }
+    requires least { IsLeastChannel (λ khz. Governs domain.now.rules khz k) least }
     requires channels { AreAllAscending IsCentre channels.now }
     ensures note { IsNote domain.now k result }
 {
     let rule = rule_of(domain, k);
-    let width_khz = allowed_width(domain, k);
-    let least = least_governed(domain, k, channels);
     let held = least_held(&rule, channels);
     RuleNote {
         alpha2: domain.alpha2,
@@ -77,15 +87,46 @@ fn note_on(domain: &Domain, k: usize, channels: &[u32]) -> RuleNote
     }
 }
 
-/// Appends the notes on the domain's rules, in their order.
-fn push_notes(notes: &mut NoteList, domain: &Domain, channels: &[u32]) -> Result<(), OutOfMemory>
+/// Appends the notes on the domain's rules, in their order, which allow these widths, in kHz, and
+/// govern these channels first.
+fn push_notes(
+    notes: &mut NoteList,
+    domain: &Domain,
+    widths: &[u32],
+    leasts: &[Option<u32>],
+    channels: &[u32],
+) -> Result<(), OutOfMemory>
+    requires widths { AreAllowedWidths domain.now.rules widths.now }
+    requires leasts { AreLeasts domain.now.rules leasts.now }
     requires channels { AreAllAscending IsCentre channels.now }
     ensures notes { OnOk result ((own : List RuleNote) × (notes.new ≡ notes.old ++ own) × AreFirstNotes domain.now (length domain.now.rules) own) }
 {
     for k in 0..domain.rules.len() {
-        notes.push(note_on(domain, k, channels))?;
+        notes.push(note_on(domain, k, widths[k], leasts[k], channels))?;
     }
     Ok(())
+}
+
+/// Appends the notes on the domain's rules, in their order. Each channel is asked once, and each run
+/// of touching rules is walked once.
+fn push_domain(
+    alloc: Global,
+    notes: &mut NoteList,
+    domain: &Domain,
+    channels: &[u32],
+) -> Result<(), OutOfMemory>
+    requires channels { AreAllAscending IsCentre channels.now }
+    ensures notes { OnOk result ((own : List RuleNote) × (notes.new ≡ notes.old ++ own) × AreFirstNotes domain.now (length domain.now.rules) own) }
+{
+    let widths = allowed_widths(alloc, domain)?;
+    let leasts = leasts_governed(alloc, domain, channels)?;
+    push_notes(
+        notes,
+        domain,
+        widths.as_slice(),
+        leasts.as_slice(),
+        channels,
+    )
 }
 
 /// A note on each rule of the database, countries and rules in their order. The rules without a least
@@ -96,7 +137,7 @@ pub fn lint(alloc: Global, db: &Db) -> Result<NoteList, OutOfMemory>
     let channels = all_channels(alloc)?;
     let mut notes = Seq::new(alloc);
     for domain in db.as_slice() {
-        push_notes(&mut notes, domain, channels.as_slice())?;
+        push_domain(alloc, &mut notes, domain, channels.as_slice())?;
     }
     Ok(notes)
 }

@@ -23,7 +23,7 @@ use Rattle.text_lines.specs.Spelling.{item_text}
 use Rattle.rule_text.proofs.FormLaws.{Names-cases}
 use Rattle.rule_text.proofs.GoodLines.{good_item, good_name}
 use Rattle.db_text.proofs.PrintedLines.{AreFine, behind, behind-append, fine_line, fine_none, item_is, item_prints, text_of_entry, wmm_header_is, wmm_header_prints}
-use Rattle.rule_text.proofs.WmmLaws.{cases_name, is_of_name-apart, is_of_name-here, same_name-apart, same_name-itself}
+use Rattle.rule_text.proofs.WmmLaws.{cases_name, is_of_name-apart, is_of_name-here, same_bytes-apart, same_bytes-itself}
 
 -- ---- one WMM rule
 
@@ -64,8 +64,8 @@ header_step above lines k fine small fresh = record {
   fine = fine_line lines above (codes "wmmrule " ++ wmm_name k ++ codes ":") (codes "wmmrule" ++ wmm_name k ++ codes ":") (WmmHeader (wmm_name k)) 30 fine (wmm_header_prints k small) (omega arith)
       (wmm_header_is k small) (good_name above (codes "wmmrule" ++ wmm_name k ++ codes ":") (wmm_name k) (wmm_header_is k small) fresh);
   block = refl;
-  here = rw (same_name-itself (wmm_name k)) refl;
-  others = λ other apart. rw (same_name-apart (wmm_name k) other (λ e. apart (sym e))) refl;
+  here = rw (same_bytes-itself (wmm_name k)) refl;
+  others = λ other apart. rw (same_bytes-apart (wmm_name k) other (λ e. apart (sym e))) refl;
   names = λ code r named. elim (Names-cases (WmmHeader (wmm_name k)) above code r named) [
     | inl top ↦ absurd (let f = top.1 in cc)
     | inr later ↦ later

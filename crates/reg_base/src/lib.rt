@@ -10,6 +10,7 @@ mod limits;
 mod memory;
 mod memory_files;
 mod read_all;
+mod shared;
 mod sink;
 mod source;
 mod streams;

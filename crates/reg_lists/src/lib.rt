@@ -4,6 +4,7 @@
 mod errors;
 mod few;
 mod seq;
+mod shared;
 
 pub use errors::OutOfMemory;
 pub use few::Few;

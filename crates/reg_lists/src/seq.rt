@@ -1,6 +1,6 @@
 //! A list that grows.
 
-ghost use Rattle.std.specs.Prelude.{◌≡◌, ◌==◌, [], ◌∷◌, ◌++◌, drop, length, slice_get, take, OnOk, OnErr};
+ghost use Rattle.std.specs.Prelude.{◌≡◌, ◌==◌, ◌<◌, ◌+◌, [], ◌∷◌, ◌++◌, Some, drop, length, slice_get, take, OnOk, OnErr};
 ghost use Rattle.std.specs.Borrow.{Array, Lends, sem};
 ghost use Rattle.std.specs.Option.{option_copied};
 ghost use Rattle.reg_lists.specs.contracts.seq.Seq.{the_row};
@@ -45,6 +45,15 @@ impl<T: Drop> Seq<T> {
     {
         self.items.push(item)?;
         Ok(())
+    }
+
+    /// Takes out the item at place `k`, counted from 0. Those behind it move up by one, in their order.
+    pub fn remove(&mut self, k: usize) -> T
+        requires within { k < length self.old }
+        ensures rest { self.new ≡ take k self.old ++ drop (k + 1) self.old }
+        ensures item { Some result ≡ slice_get self.old k }
+    {
+        self.items.remove(k)
     }
 
     /// Drops all items, and keeps their room.

@@ -10,7 +10,7 @@ pub trait Board<V: Numbered> {
     ghost shows: { Self → V };
 
     /// Shows the value in place of the one that was shown, and hands the board back. After `OutOfMemory` it shows
-    /// what it showed, and the value is dropped.
+    /// what it showed, and the value is dropped, at once or by the next publish.
     fn publish(self, alloc: Global, value: V) -> (Self, Result<(), OutOfMemory>)
     where
         Self: Sized,

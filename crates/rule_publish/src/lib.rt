@@ -13,6 +13,7 @@ mod plain;
 mod post;
 mod rule;
 mod seat;
+mod shared;
 mod sheet;
 mod showing;
 mod teller;

@@ -7,3 +7,4 @@ pub mod Governing
 pub mod Width
 pub mod Regions
 pub mod World
+pub mod inner

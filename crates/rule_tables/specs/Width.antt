@@ -1,5 +1,5 @@
 -- How wide a channel may be under a rule of a domain.
-use Rattle.std.specs.Prelude.{◌≡◌, ℕ, ◌+◌, ◌-◌, ◌<◌, ◌≤◌, List, length, slice_get, Some, MatchBool}
+use Rattle.std.specs.Prelude.{◌≡◌, ℕ, ◌+◌, ◌-◌, ◌<◌, ◌≤◌, List, length, slice_get, Some, MatchBool, get_or}
 use Rattle.freq_range.specs.declared.rule.Rule.{Rule}
 
 -- the rule at place i reaches the next one of the list: it ends at or above that one's start
@@ -35,3 +35,8 @@ pub record IsRunWidth (rules : List Rule) (k width : ℕ) : Type 0 where
 -- The width in kHz that rule k allows: its own, and with AUTO-BW on rule k itself that of its run.
 abbrev pub IsAllowedWidth : List Rule → ℕ → ℕ → Type 0
 IsAllowedWidth rules k width = (r : Rule) → slice_get rules k ≡ Some r → MatchBool r.flags.auto_bw (IsRunWidth rules k width) (width ≡ r.max_bw_khz)
+
+-- for each rule, in order, the width in kHz that it allows
+pub record AreAllowedWidths (rules : List Rule) (widths : List ℕ) : Type 0 where
+  pub count : length widths ≡ length rules
+  pub each : (k : ℕ) → k < length rules → IsAllowedWidth rules k (get_or widths k 0)

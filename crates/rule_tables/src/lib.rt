@@ -6,6 +6,8 @@ mod database;
 mod domain;
 mod file_fault;
 mod govern;
+mod run_widths;
+mod shared;
 mod width;
 mod world;
 
@@ -14,4 +16,5 @@ pub use database::{Db, DbInsertFault};
 pub use domain::{Domain, DomainFault};
 pub use file_fault::DbFault;
 pub use govern::governing;
+pub use run_widths::allowed_widths;
 pub use width::{allowed_width, width_among};

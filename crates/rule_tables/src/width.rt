@@ -27,7 +27,7 @@ fn run_start(rules: &[Rule], k: usize) -> usize
 }
 
 /// The last rule of the run of touching rules that has rule `k`.
-fn run_end(rules: &[Rule], k: usize) -> usize
+pub(crate) fn run_end(rules: &[Rule], k: usize) -> usize
     requires { k < length rules.now }
     ensures end { IsRunEnd rules.now k result }
 {

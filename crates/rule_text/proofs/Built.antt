@@ -19,7 +19,8 @@ use Rattle.rule_tables.specs.declared.domain.Domain.{Domain}
 use Rattle.text_lines.specs.declared.fault.TextKind.{TextKind}
 use Rattle.text_lines.specs.declared.fault.TextKind.TheVariants.{NoRules, WmmShort}
 use Rattle.rule_text.specs.Faults.{AreAccepted}
-use Rattle.rule_text.specs.Forms.{Form, NamesCode, block_of, form_at, is_of_name, rules_of, same_name, with_entry, wmm_of_name}
+use Rattle.reg_base.specs.Texts.{same_bytes}
+use Rattle.rule_text.specs.Forms.{Form, NamesCode, block_of, form_at, is_of_name, rules_of, with_entry, wmm_of_name}
 use Rattle.rule_text.specs.Forms.Form.{Country, Empty, ItemLine, RuleLine, WmmHeader}
 use Rattle.text_lines.specs.Spelling.{AreCodes}
 use Rattle.rule_text.specs.inner.State.{AreSound}
@@ -28,7 +29,7 @@ use Rattle.rule_text.proofs.Contexts.{told_named}
 use Rattle.rule_text.proofs.FormLaws.{form_at_more, form_at_top, same_header}
 use Rattle.rule_text.proofs.Unique.{sound_from_accepted}
 use Rattle.rule_text.proofs.ValidRules.{IsEnded, few_rules, rules_sound}
-use Rattle.rule_text.proofs.WmmLaws.{same_name-true}
+use Rattle.rule_text.proofs.WmmLaws.{same_bytes-true}
 
 -- ---- headers
 
@@ -43,12 +44,12 @@ at_some_line (first ∷ above) form has = elim (Contains-cases first above form 
 -- a name with a WMM rule has a header
 named_at : (forms : List Form) (name : List ℕ) → wmm_of_name name forms ≢ None → (k : ℕ) × (form_at forms k ≡ Some (WmmHeader name))
 named_at [] name some = absurd (some refl)
-named_at (WmmHeader other ∷ above) name some = by_test (cases_Bool (same_name other name)) (named_at above name)
+named_at (WmmHeader other ∷ above) name some = by_test (cases_Bool (same_bytes other name)) (named_at above name)
   where
-    by_test : (same_name other name ≡ true) ⊎ (same_name other name ≡ false) → (wmm_of_name name above ≢ None → (k : ℕ) × (form_at above k ≡ Some (WmmHeader name)))
+    by_test : (same_bytes other name ≡ true) ⊎ (same_bytes other name ≡ false) → (wmm_of_name name above ≢ None → (k : ℕ) × (form_at above k ≡ Some (WmmHeader name)))
         → (k : ℕ) × (form_at (WmmHeader other ∷ above) k ≡ Some (WmmHeader name))
     by_test (inl same) rest =
-        (length above, subst (λ n. form_at (WmmHeader other ∷ above) (length above) ≡ Some (WmmHeader n)) (same_name-true other name same) (form_at_top (WmmHeader other) above))
+        (length above, subst (λ n. form_at (WmmHeader other ∷ above) (length above) ≡ Some (WmmHeader n)) (same_bytes-true other name same) (form_at_top (WmmHeader other) above))
     by_test (inr apart) rest =
         let there = rest (λ none. some (rw apart none)) in
         (there.0, form_at_more (WmmHeader name) (WmmHeader other) above there.0 there.1)
@@ -170,12 +171,12 @@ record IsBelow (forms : List Form) (n : ℕ) (ds : List Domain) : Type 0 where
 abbrev code_at : ℕ → Alpha2
 code_at n = record { a = n / 256; b = n % 256 }
 
-same_bytes : (a a' b b' : ℕ) → a ≡ a' → b ≡ b' → ◌≡◌ {A = Alpha2} (record { a = a; b = b }) (record { a = a'; b = b' })
-same_bytes a a' b b' p q = cc
+equal_codes : (a a' b b' : ℕ) → a ≡ a' → b ≡ b' → ◌≡◌ {A = Alpha2} (record { a = a; b = b }) (record { a = a'; b = b' })
+equal_codes a a' b b' p q = cc
 
 code_back : (c : Alpha2) (n : ℕ) → IsCode c → key c ≡ n → c ≡ code_at n
-code_back c n (inl letters) same = let low = letters.1 in same_bytes c.a (n / 256) c.b (n % 256) (omega (arith, low, same)) (omega (arith, low, same))
-code_back c n (inr zeros) same = let low = zeros.1 in same_bytes c.a (n / 256) c.b (n % 256) (omega (arith, low, same)) (omega (arith, low, same))
+code_back c n (inl letters) same = let low = letters.1 in equal_codes c.a (n / 256) c.b (n % 256) (omega (arith, low, same)) (omega (arith, low, same))
+code_back c n (inr zeros) same = let low = zeros.1 in equal_codes c.a (n / 256) c.b (n % 256) (omega (arith, low, same)) (omega (arith, low, same))
 
 none_below : (forms : List Form) → IsBelow forms 0 []
 none_below forms = record {

@@ -7,7 +7,8 @@ use Rattle.freq_range.proofs.Members.{Contains-head, Contains-later, Contains-ca
 use Rattle.freq_range.specs.First.{IsFirst}
 use Rattle.rule_tables.specs.declared.code.Alpha2.{Alpha2}
 use Rattle.rule_tables.specs.declared.code.Region.{Region}
-use Rattle.rule_text.specs.Forms.{Block, Form, NamesCode, block_of, form_at, is_of_code, rules_of, same_code}
+use Rattle.rule_tables.specs.Code.{is_same_code}
+use Rattle.rule_text.specs.Forms.{Block, Form, NamesCode, block_of, form_at, is_of_code, rules_of}
 use Rattle.rule_text.specs.Forms.Block.{NoBlock, OfCountries, OfName}
 use Rattle.rule_text.specs.Forms.Form.{Country, Empty, ItemLine, RuleLine, WmmHeader}
 use Rattle.text_lines.specs.Spelling.{AreCodes}
@@ -15,14 +16,14 @@ use Rattle.rule_text.specs.inner.State.{AreSound, IsHeaderAt}
 
 -- ---- codes
 
-pub same_code-itself : (code : Alpha2) → same_code code code ≡ true
-same_code-itself code = rw (eq-eqb code.a code.a refl, eq-eqb code.b code.b refl) refl
+pub is_same_code-itself : (code : Alpha2) → is_same_code code code ≡ true
+is_same_code-itself code = rw (eq-eqb code.a code.a refl, eq-eqb code.b code.b refl) refl
 
 same_bytes : (a a' b b' : ℕ) → a ≡ a' → b ≡ b' → ◌≡◌ {A = Alpha2} (record { a = a; b = b }) (record { a = a'; b = b' })
 same_bytes a a' b b' p q = cc
 
--- two codes are one or not, and `same_code` tells
-pub cases_code : (c d : Alpha2) → (c ≡ d) ⊎ ((c ≢ d) × (same_code c d ≡ false))
+-- two codes are one or not, and `is_same_code` tells
+pub cases_code : (c d : Alpha2) → (c ≡ d) ⊎ ((c ≢ d) × (is_same_code c d ≡ false))
 cases_code c d = elim (cases_eq c.a d.a) [
   | inr other ↦ inr (λ e. other (ap (λ (x : Alpha2). x.a) e), rw (ne_eqb c.a d.a other) refl)
   | inl first ↦ elim (cases_eq c.b d.b) [
@@ -31,24 +32,24 @@ cases_code c d = elim (cases_eq c.a d.a) [
   ]
 ]
 
-pub same_code-true : (c d : Alpha2) → same_code c d ≡ true → c ≡ d
-same_code-true c d is = elim (cases_code c d) [
+pub is_same_code-true : (c d : Alpha2) → is_same_code c d ≡ true → c ≡ d
+is_same_code-true c d is = elim (cases_code c d) [
   | inl same ↦ same
   | inr other ↦ absurd (let no = other.1 in cc)
 ]
 
-pub same_code-apart : (c d : Alpha2) → c ≢ d → same_code c d ≡ false
-same_code-apart c d apart = elim (cases_code c d) [
+pub is_same_code-apart : (c d : Alpha2) → c ≢ d → is_same_code c d ≡ false
+is_same_code-apart c d apart = elim (cases_code c d) [
   | inl same ↦ absurd (apart same)
   | inr other ↦ other.1
 ]
 
 -- whether a code is one of a list
 pub cases_among : (code : Alpha2) (cs : List Alpha2)
-    → (Contains cs code × (list_any (same_code code) cs ≡ true)) ⊎ ((Contains cs code → ⊥) × (list_any (same_code code) cs ≡ false))
+    → (Contains cs code × (list_any (is_same_code code) cs ≡ true)) ⊎ ((Contains cs code → ⊥) × (list_any (is_same_code code) cs ≡ false))
 cases_among code [] = inr (λ has. Contains-nothing code has, refl)
 cases_among code (c ∷ cs) = elim (cases_code code c) [
-  | inl same ↦ inl (subst (Contains (c ∷ cs)) (sym same) (Contains-head c cs), rw (ap (same_code code) (sym same) ∙ same_code-itself code) refl)
+  | inl same ↦ inl (subst (Contains (c ∷ cs)) (sym same) (Contains-head c cs), rw (ap (is_same_code code) (sym same) ∙ is_same_code-itself code) refl)
   | inr apart ↦ elim (cases_among code cs) [
     | inl among ↦ inl (Contains-later c cs code among.0, rw (apart.1, among.1) refl)
     | inr none ↦ inr (
@@ -61,13 +62,13 @@ cases_among code (c ∷ cs) = elim (cases_code code c) [
   ]
 ]
 
-pub among_true : (code : Alpha2) (cs : List Alpha2) → Contains cs code → list_any (same_code code) cs ≡ true
+pub among_true : (code : Alpha2) (cs : List Alpha2) → Contains cs code → list_any (is_same_code code) cs ≡ true
 among_true code cs has = elim (cases_among code cs) [
   | inl among ↦ among.1
   | inr none ↦ absurd (none.0 has)
 ]
 
-pub among_false : (code : Alpha2) (cs : List Alpha2) → (Contains cs code → ⊥) → list_any (same_code code) cs ≡ false
+pub among_false : (code : Alpha2) (cs : List Alpha2) → (Contains cs code → ⊥) → list_any (is_same_code code) cs ≡ false
 among_false code cs lacks = elim (cases_among code cs) [
   | inl among ↦ absurd (lacks among.0)
   | inr none ↦ none.1

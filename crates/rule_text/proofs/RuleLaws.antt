@@ -6,7 +6,7 @@ use Rattle.std.specs.List.{list_any}
 use Rattle.freq_range.proofs.Members.{Contains-head}
 use Rattle.freq_range.specs.declared.rule.Rule.{Rule}
 use Rattle.rule_tables.proofs.Dropped.{DropsRepeats-keeps, DropsRepeats-only, DropsRepeats-unique}
-use Rattle.rule_tables.specs.Code.{IsCode, key}
+use Rattle.rule_tables.specs.Code.{IsCode, key, is_same_code}
 use Rattle.rule_tables.specs.FileFormat.{DropsRepeats}
 use Rattle.rule_tables.specs.declared.code.Alpha2.{Alpha2}
 use Rattle.rule_tables.specs.declared.code.Region.{Region}
@@ -15,12 +15,12 @@ use Rattle.text_lines.specs.declared.fault.LineStop.{LineStop}
 use Rattle.text_lines.specs.declared.fault.LineStop.TheVariants.{Kind, OutOfMemory}
 use Rattle.text_lines.specs.declared.fault.TextKind.TheVariants.{TooManyRules}
 use Rattle.rule_text.specs.Faults.{HasTooManyRules}
-use Rattle.rule_text.specs.Forms.{Form, NamesCode, block_of, is_of_code, rules_of, same_code, with_named}
+use Rattle.rule_text.specs.Forms.{Form, NamesCode, block_of, is_of_code, rules_of, with_named}
 use Rattle.rule_text.specs.Forms.Block.{OfCountries}
 use Rattle.rule_text.specs.Forms.Form.{RuleLine}
 use Rattle.rule_text.specs.inner.State.{AddsRule, AddsTo, AreCountries, AreRuled, Countries, IsAddAllStop, IsAddToStop, IsAdded, IsCountryOf, IsKeptCountry, country_of, forms_at}
 use Rattle.rule_text.proofs.CountryLaws.{each_after, keys_after, named_country, quiet_country}
-use Rattle.rule_text.proofs.FormLaws.{Names-cases, Names-later, among_true, block_named_by, cases_among, first_header-more, same_code-apart}
+use Rattle.rule_text.proofs.FormLaws.{Names-cases, Names-later, among_true, block_named_by, cases_among, first_header-more, is_same_code-apart}
 
 -- the rules of a code whose block is open, with one more line
 pub open_rules : (code : Alpha2) (rule : Rule) (name : Option (List ℕ)) (above : List Form) → is_of_code code (block_of above) ≡ true
@@ -77,11 +77,11 @@ same_country code rule full name above old new is_full is_open is (inr added) = 
 
 -- ---- the codes one after another
 
-any_more : (code c : Alpha2) (done : List Alpha2) → c ≢ code → list_any (same_code code) (done ++ c ∷ []) ≡ list_any (same_code code) done
-any_more code c [] apart = rw (same_code-apart code c (λ e. apart (sym e))) refl
+any_more : (code c : Alpha2) (done : List Alpha2) → c ≢ code → list_any (is_same_code code) (done ++ c ∷ []) ≡ list_any (is_same_code code) done
+any_more code c [] apart = rw (is_same_code-apart code c (λ e. apart (sym e))) refl
 any_more code c (d ∷ done) apart = rw (any_more code c done apart) refl
 
-any_last : (code : Alpha2) (done : List Alpha2) → list_any (same_code code) (done ++ code ∷ []) ≡ true
+any_last : (code : Alpha2) (done : List Alpha2) → list_any (is_same_code code) (done ++ code ∷ []) ≡ true
 any_last code done = among_true code (done ++ code ∷ []) (Contains-append_right done (code ∷ []) code (Contains-head code []))
 
 -- the country of a code with the rule

@@ -19,7 +19,7 @@ use Rattle.rule_text.proofs.Contexts.{told_in_countries}
 use Rattle.rule_text.proofs.FormLaws.{cases_among}
 use Rattle.rule_text.proofs.LineForms.{IsSpelledRule-opens}
 use Rattle.text_lines.proofs.ValidSpelled.{valid_spelled}
-use Rattle.rule_text.proofs.WmmLaws.{cases_name, same_name-apart}
+use Rattle.rule_text.proofs.WmmLaws.{cases_name, same_bytes-apart}
 
 -- ---- WMM rules that no further line changes
 
@@ -34,7 +34,7 @@ stays_ended line (RuleLine rule other) above name w good ended = ended
 stays_ended line (ItemLine item e) above name w good ended = (rw ended.1 ended.0, ended.1)
 stays_ended line (WmmHeader other) above name w good ended = elim (cases_name other name) [
   | inl same ↦ absurd (good.good WmmTwice (other, good.is, λ none. none-some w (sym none ∙ subst (λ n. wmm_of_name n above ≡ Some w) (sym same) ended.0)))
-  | inr apart ↦ let differ = same_name-apart other name apart in (rw differ ended.0, differ)
+  | inr apart ↦ let differ = same_bytes-apart other name apart in (rw differ ended.0, differ)
 ]
 
 -- the rule is valid where its WMM rule is, and that is one whose block has ended

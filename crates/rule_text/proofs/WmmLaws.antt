@@ -9,7 +9,8 @@ use Rattle.freq_range.specs.declared.wmm.WmmEntry.{WmmEntry}
 use Rattle.text_lines.specs.declared.form.Item.{Item}
 use Rattle.rule_text.specs.declared.wmm_rules.WmmBlock.{WmmBlock}
 use Rattle.rule_text.specs.Faults.{HasItem}
-use Rattle.rule_text.specs.Forms.{Block, Form, block_of, item_entry, form_at, is_of_name, named_wmm, same_name, with_entry, wmm_of_name}
+use Rattle.reg_base.specs.Texts.{same_bytes}
+use Rattle.rule_text.specs.Forms.{Block, Form, block_of, item_entry, form_at, is_of_name, named_wmm, with_entry, wmm_of_name}
 use Rattle.rule_text.specs.Forms.Block.{OfName}
 use Rattle.rule_text.specs.Forms.Form.{Country, Empty, ItemLine, RuleLine, WmmHeader}
 use Rattle.rule_text.specs.inner.State.{AddsItemTo, AreBlocks, Blocks, IsBlockOf, IsItemAdded, IsWmmHeaderAt, BlocksNameWmm, OpensWmm, block_named}
@@ -17,26 +18,26 @@ use Rattle.rule_text.proofs.FormLaws.{form_at_cases, form_at_more, form_at_top, 
 
 -- ---- names
 
-pub same_name-itself : (name : List ℕ) → same_name name name ≡ true
-same_name-itself name = (bytes_eq-Decides name name).1 refl
+pub same_bytes-itself : (name : List ℕ) → same_bytes name name ≡ true
+same_bytes-itself name = (bytes_eq-Decides name name).1 refl
 
-pub same_name-true : (name other : List ℕ) → same_name name other ≡ true → name ≡ other
-same_name-true name other is = (bytes_eq-Decides name other).0 is
+pub same_bytes-true : (name other : List ℕ) → same_bytes name other ≡ true → name ≡ other
+same_bytes-true name other is = (bytes_eq-Decides name other).0 is
 
-pub same_name-apart : (name other : List ℕ) → name ≢ other → same_name name other ≡ false
-same_name-apart name other apart = false_from_ne_true (same_name name other) (λ t. apart (same_name-true name other t))
+pub same_bytes-apart : (name other : List ℕ) → name ≢ other → same_bytes name other ≡ false
+same_bytes-apart name other apart = false_from_ne_true (same_bytes name other) (λ t. apart (same_bytes-true name other t))
 
 pub cases_name : (name other : List ℕ) → (name ≡ other) ⊎ (name ≢ other)
-cases_name name other = elim (cases_Bool (same_name name other)) [
-  | inl is ↦ inl (same_name-true name other is)
+cases_name name other = elim (cases_Bool (same_bytes name other)) [
+  | inl is ↦ inl (same_bytes-true name other is)
   | inr differ ↦ inr (λ same. let e = (bytes_eq-Decides name other).1 same in cc)
 ]
 
 pub is_of_name-apart : (name other : List ℕ) (block : Block) → block ≡ OfName name → other ≢ name → is_of_name other block ≡ false
-is_of_name-apart name other block is apart = subst (λ b. is_of_name other b ≡ false) (sym is) (same_name-apart name other (λ e. apart (sym e)))
+is_of_name-apart name other block is apart = subst (λ b. is_of_name other b ≡ false) (sym is) (same_bytes-apart name other (λ e. apart (sym e)))
 
 pub is_of_name-here : (name : List ℕ) (block : Block) → block ≡ OfName name → is_of_name name block ≡ true
-is_of_name-here name block is = subst (λ b. is_of_name name b ≡ true) (sym is) (same_name-itself name)
+is_of_name-here name block is = subst (λ b. is_of_name name b ≡ true) (sym is) (same_bytes-itself name)
 
 -- ---- headers of WMM rules
 
@@ -44,7 +45,7 @@ is_of_name-here name block is = subst (λ b. is_of_name name b ≡ true) (sym is
 pub wmm_of-header : (forms : List Form) (name : List ℕ) (k : ℕ) → IsWmmHeaderAt forms name k → wmm_of_name name forms ≢ None
 wmm_of-header [] name k at = absurd cc
 wmm_of-header (form ∷ above) name k at = elim (form_at_cases (WmmHeader name) form above k at) [
-  | inl top ↦ subst (λ f. wmm_of_name name (f ∷ above) ≢ None) (sym top.1) (rw (same_name-itself name) (λ none. absurd cc))
+  | inl top ↦ subst (λ f. wmm_of_name name (f ∷ above) ≢ None) (sym top.1) (rw (same_bytes-itself name) (λ none. absurd cc))
   | inr later ↦ by_form form (wmm_of-header above name k later)
 ]
   where
@@ -56,7 +57,7 @@ wmm_of-header (form ∷ above) name k at = elim (form_at_cases (WmmHeader name) 
     by_form Empty some = some
     by_form (Country cs region) some = some
     by_form (RuleLine rule n) some = some
-    by_form (WmmHeader other) some = elim (cases_Bool (same_name other name)) [
+    by_form (WmmHeader other) some = elim (cases_Bool (same_bytes other name)) [
       | inl is ↦ rw is (λ none. absurd cc)
       | inr differ ↦ rw differ some
     ]
@@ -115,10 +116,10 @@ pub opened_blocks : (name : List ℕ) (line : ℕ) (above : List Form) (old new 
     → AreBlocks (WmmHeader name ∷ above) new
 opened_blocks name line above old new at are opens other = elim (cases_name other name) [
   | inr apart ↦ subst (IsBlockOf (WmmHeader name ∷ above) other) (sym (opens.others other apart))
-      (same_block (WmmHeader name) above other (block_named old other) (rw (same_name-apart name other (λ e. apart (sym e))) refl) (are other))
+      (same_block (WmmHeader name) above other (block_named old other) (rw (same_bytes-apart name other (λ e. apart (sym e))) refl) (are other))
   | inl same ↦ subst (λ n. IsBlockOf (WmmHeader name ∷ above) n (block_named new n)) (sym same)
       (subst (IsBlockOf (WmmHeader name ∷ above) name) (sym opens.here) (
-        rw (same_name-itself name) refl,
+        rw (same_bytes-itself name) refl,
         length above,
         at,
         record {

@@ -1,11 +1,12 @@
 -- What the lines of a text say together. A list of forms has that of the last line first: the forms behind one are
 -- those of the lines above it.
-use Rattle.std.specs.Prelude.{◌≡◌, ℕ, ◌==◌, ◌&&◌, nat_eq, Bool, false, List, [], ◌∷◌, length, Contains, Option, Some, None, option_map, if◌then◌else◌}
-use Rattle.std.specs.Cmp.Lexicographic.{pointwise}
+use Rattle.std.specs.Prelude.{◌≡◌, ℕ, ◌==◌, Bool, false, List, [], ◌∷◌, length, Contains, Option, Some, None, option_map, if◌then◌else◌}
 use Rattle.std.specs.List.{list_any}
 use Rattle.freq_range.specs.declared.rule.Rule.{Rule}
 use Rattle.freq_range.specs.declared.wmm.Wmm.{Wmm}
 use Rattle.freq_range.specs.declared.wmm.WmmEntry.{WmmEntry}
+use Rattle.reg_base.specs.Texts.{same_bytes}
+use Rattle.rule_tables.specs.Code.{is_same_code}
 use Rattle.rule_tables.specs.declared.code.Alpha2.{Alpha2}
 use Rattle.rule_tables.specs.declared.code.Region.{Region}
 use Rattle.text_lines.specs.declared.form.Item.{Item}
@@ -48,10 +49,6 @@ block_of (form ∷ above) = block_of above
 
 -- ---- WMM rules
 
--- both names have the same bytes, as a test
-abbrev pub same_name : List ℕ → List ℕ → Bool
-same_name name other = pointwise nat_eq name other
-
 -- An item that isn't named yet. No line can spell it, since it waits for no slot.
 abbrev pub unnamed : WmmEntry
 unnamed = record { min_exp = 0; max_exp = 0; aifsn = 0; cot_ms = 0 }
@@ -86,26 +83,22 @@ with_entry BkAp e w = record w { bk_ap = e }
 abbrev pub is_of_name : List ℕ → Block → Bool
 is_of_name name NoBlock = false
 is_of_name name (OfCountries cs) = false
-is_of_name name (OfName other) = same_name other name
+is_of_name name (OfName other) = same_bytes other name
 
 -- the WMM rule of a name: the items below its header, or nothing where no line is its header
 abbrev pub wmm_of_name : List ℕ → List Form → Option Wmm
 wmm_of_name name [] = None
-wmm_of_name name (WmmHeader other ∷ above) = if same_name other name then Some no_items else wmm_of_name name above
+wmm_of_name name (WmmHeader other ∷ above) = if same_bytes other name then Some no_items else wmm_of_name name above
 wmm_of_name name (ItemLine item e ∷ above) =
     if is_of_name name (block_of above) then option_map (with_entry item e) (wmm_of_name name above) else wmm_of_name name above
 wmm_of_name name (form ∷ above) = wmm_of_name name above
 
 -- ---- rules of countries
 
--- both codes have the same bytes, as a test
-abbrev pub same_code : Alpha2 → Alpha2 → Bool
-same_code c d = c.a == d.a && c.b == d.b
-
 -- the block is this country's, among others perhaps
 abbrev pub is_of_code : Alpha2 → Block → Bool
 is_of_code code NoBlock = false
-is_of_code code (OfCountries cs) = list_any (same_code code) cs
+is_of_code code (OfCountries cs) = list_any (is_same_code code) cs
 is_of_code code (OfName name) = false
 
 -- the WMM rule that is named, as the lines above have it

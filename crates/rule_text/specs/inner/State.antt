@@ -14,7 +14,7 @@ use Rattle.text_lines.specs.declared.form.Item.{Item}
 use Rattle.rule_text.specs.declared.wmm_rules.WmmBlock.{WmmBlock}
 use Rattle.std.specs.List.{list_any}
 use Rattle.freq_range.specs.First.{IsFirst}
-use Rattle.rule_tables.specs.Code.{IsCode}
+use Rattle.rule_tables.specs.Code.{IsCode, is_same_code}
 use Rattle.rule_tables.specs.FileFormat.{DropsRepeats}
 use Rattle.rule_tables.specs.Databases.{IsDb, IsDomain}
 use Rattle.rule_tables.specs.declared.domain.Domain.{Domain}
@@ -25,7 +25,7 @@ use Rattle.text_lines.specs.Lines.{IsReadableLine, text_lines}
 use Rattle.rule_text.specs.TextOf.{IsShortAt}
 use Rattle.text_lines.specs.LineFaults.{place_of_kind}
 use Rattle.rule_text.specs.Faults.{AreAccepted, HasTooManyRules, IsContradicted, IsGoodLine, IsLineFault, IsWrong}
-use Rattle.rule_text.specs.Forms.{Form, IsForm, NamesCode, block_of, item_entry, form_at, no_items, rules_of, same_code, with_entry, wmm_of_name}
+use Rattle.rule_text.specs.Forms.{Form, IsForm, NamesCode, block_of, item_entry, form_at, no_items, rules_of, with_entry, wmm_of_name}
 use Rattle.rule_text.specs.Forms.Block.{NoBlock, OfCountries, OfName}
 use Rattle.rule_text.specs.Forms.Form.{Country, RuleLine, WmmHeader}
 use Rattle.text_lines.specs.Spelling.{AreCodes}
@@ -195,7 +195,7 @@ AreSound (form ∷ above) = AreSound above
 
 -- the lines of a code, where the rule has come to the countries of the first codes alone
 abbrev pub forms_at : Alpha2 → List Alpha2 → Form → List Form → List Form
-forms_at code done form above = if list_any (same_code code) done then form ∷ above else above
+forms_at code done form above = if list_any (is_same_code code) done then form ∷ above else above
 
 -- the countries of the lines, where the last line's rule has come to those of the first codes alone
 pub record AreRuled (above : List Form) (rule : Rule) (name : Option (List ℕ)) (done : List Alpha2) (countries : Countries) : Type 0 where

@@ -6,6 +6,6 @@ hidden_by-requires c = record { held = (c.args.k, c.rule_of-rule.result, c.rule_
 
 pub returns : goal.returns
 returns c = record {
-  note = note_is c.args.domain.now c.args.k c.rule_of-rule.result c.allowed_width-width_khz.result c.least_governed-least.result c.least_held-held.result c.hidden_by.result c.is_idle_auto.result
-      c.rule_of-rule.ensures.rule c.allowed_width-width_khz.ensures.width c.least_governed-least.ensures.least c.least_held-held.ensures.least c.hidden_by.ensures.hidden c.is_idle_auto.ensures.idle;
+  note = note_is c.args.domain.now c.args.k c.rule_of-rule.result c.args.width_khz c.args.least c.least_held-held.result c.hidden_by.result c.is_idle_auto.result
+      c.rule_of-rule.ensures.rule c.requires.width c.requires.least c.least_held-held.ensures.least c.hidden_by.ensures.hidden c.is_idle_auto.ensures.idle;
 }
