@@ -15,7 +15,7 @@ use Rattle.reg_journal.proofs.Radios.{radio_there}
 
 -- ---- on one radio
 
-abbrev is_of : ℕ → Iface → Bool
+abbrev pub is_of : ℕ → Iface → Bool
 is_of r x = x.radio == r
 
 fewer_left : (r j : ℕ) (xs : List Iface) → length (filter (is_of r) (filter (is_apart j) xs)) ≤ length (filter (is_of r) xs)

@@ -73,7 +73,7 @@ quiet_stays db f J r s due leaves quiet until barred = elim (split_cases f J bar
 ]
 
 -- radar that the radio met came before
-radar_before : (f : Fact) (facts : Journal) (r s : ℕ) → ((chan : ChanDef) → f ≡ radar_met r chan → ⊥) → HasRadar (f ∷ facts) r s → HasRadar facts r s
+pub radar_before : (f : Fact) (facts : Journal) (r s : ℕ) → ((chan : ChanDef) → f ≡ radar_met r chan → ⊥) → HasRadar (f ∷ facts) r s → HasRadar facts r s
 radar_before f facts r s unmet has = elim (split_cases f facts has.newer has.older (radar_met r has.chan) has.met) [
   | inl newest ↦ absurd (unmet has.chan newest.1)
   | inr (newer, _, met) ↦ record { newer = newer; chan = has.chan; older = has.older; met = met; covered = has.covered }
@@ -97,7 +97,7 @@ begun_again db newer older i chan length k due over is = elim (check_before db n
 ]
 
 -- a check that stands is kept: only a running one is dropped
-kept_stays : (db : List Domain) (f : Fact) (J : Journal) (r s end : ℕ) → EachMayFollow db (f ∷ J) → (stands : Stands db J r s end)
+pub kept_stays : (db : List Domain) (f : Fact) (J : Journal) (r s end : ℕ) → EachMayFollow db (f ∷ J) → (stands : Stands db J r s end)
     → IsKept (f ∷ stands.counts.newer) stands.counts.iface
 kept_stays db f J r s end due stands newer between at =
     let c = stands.counts in
@@ -115,7 +115,7 @@ kept_stays db f J r s end due stands newer between at =
     ]
 
 -- the region stays what it was since
-region_stays : (db : List Domain) (f : Fact) (J newer base : Journal) (r : ℕ) → J ≡ newer ++ base → region_of db (f ∷ J) r ≡ region_of db J r
+pub region_stays : (db : List Domain) (f : Fact) (J newer base : Journal) (r : ℕ) → J ≡ newer ++ base → region_of db (f ∷ J) r ≡ region_of db J r
     → KeepsRegion db newer base r → KeepsRegion db (f ∷ newer) base r
 region_stays db f J newer base r at same keeps newer' g between split = elim (split_cases f newer newer' between g split) [
   | inl (_, fact, rest) ↦

@@ -24,7 +24,7 @@ now_later db (f ∷ newer) base due =
     omega arith
 
 -- an index that was given isn't given again
-not_again : (db : List Domain) (J : Journal) (i j r : ℕ) → EachMayFollow db J → j ≡ made_of J + 1 → radio_of J i ≡ Some r → i ≡ j → ⊥
+pub not_again : (db : List Domain) (J : Journal) (i j r : ℕ) → EachMayFollow db J → j ≡ made_of J + 1 → radio_of J i ≡ Some r → i ≡ j → ⊥
 not_again db J i j r due next radio same =
     let below = radio_given db J i r due radio in
     absurd (omega arith)

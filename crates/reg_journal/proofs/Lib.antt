@@ -42,6 +42,7 @@ pub mod Asked
 pub mod Coded
 pub mod Distinct
 pub mod WorkedRows
+pub mod UsedRows
 pub mod Naming
 pub mod Formed
 pub mod Wholes
@@ -50,3 +51,6 @@ pub mod ShownReplies
 pub mod ShownSteps
 pub mod FewRows
 pub mod RowsKept
+pub mod Ruled
+pub mod RuledSteps
+pub mod OneRuling

@@ -141,7 +141,7 @@ one-hints : (db : List Domain) (J : Journal) (hint : Hinted) → ComesToOne (Hin
 one-hints db J hint = one-decides _ _ (one-hint db J hint) (one-sweeps db J _ _ _)
 
 -- the body of an element names one code
-one-code : (body : List ℕ) (e f : Element) → IsElement body e → IsElement body f → e.alpha2 ≡ f.alpha2
+pub one-code : (body : List ℕ) (e f : Element) → IsElement body e → IsElement body f → e.alpha2 ≡ f.alpha2
 one-code body e f is is' = same e.alpha2.a e.alpha2.b f.alpha2.a f.alpha2.b (is.first ∙ sym is'.first) (is.second ∙ sym is'.second)
   where
     same : (a b c d : ℕ) → a ≡ c → b ≡ d → ◌≡◌ {A = Alpha2} (record { a = a; b = b }) (record { a = c; b = d })

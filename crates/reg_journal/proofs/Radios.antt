@@ -23,7 +23,7 @@ pub radio_there : (db : List Domain) (J : Journal) (x : Iface) → EachMayFollow
 radio_there db J x due has = home_there db J x.index x.radio due (home_listed db J x due has)
 
 -- a radio that is there was added
-profile_used : (J : Journal) (r : ℕ) → IsSome (profile_of J r) → is_used J r ≡ true
+pub profile_used : (J : Journal) (r : ℕ) → IsSome (profile_of J r) → is_used J r ≡ true
 profile_used [] r there = absurd (false≢true there)
 profile_used (radio_added q profile ∷ J) r there = elim (cases_eq r q) [
   | inl same ↦ or_left (r == q) (is_used J r) (eq-eqb r q same)

@@ -10,7 +10,7 @@ use Rattle.chan_flags.specs.Profiles.{Abilities}
 use Rattle.reg_journal.specs.Applicable.{region_of}
 use Rattle.reg_journal.specs.Facts.{Fact, Journal, moment_is, radio_added, radar_met, made, check_begun, check_dropped}
 use Rattle.reg_journal.specs.Present.{now_of, operation_of}
-use Rattle.reg_journal.specs.Radar.{IsBarred, IsQuiet, NoneStands, Stands, WasUsedAt}
+use Rattle.reg_journal.specs.Radar.{Counts, IsBarred, IsQuiet, NoneStands, Stands, WasUsedAt}
 use Rattle.reg_journal.specs.Rows.{checked_row, disturbed_row, radar_row}
 use Rattle.reg_journal.proofs.Splits.{not_split, split_cases}
 
@@ -114,30 +114,22 @@ only_first m newer older g at = elim (split_cases (moment_is m) [] newer older g
   | inr (rest, _, split) ↦ absurd (not_split rest older g split)
 ]
 
-pub stands_then : (db : List Domain) (p : Abilities) (name : List ℕ) (c : ChanDef) (m s : ℕ) → IsCovered c s → 60000 ≤ m → m < 62000 → Stands db (checked_row p name c m) 0 s 60000
-stands_then db p name c m s covered late soon = record {
-  counts = record {
-    newer = moment_is m ∷ [];
-    iface = 1;
-    chan = c;
-    length = 60000;
-    older = base;
-    begun = refl;
-    on_radio = refl;
-    covered = covered;
-    ends = refl;
-    kept = λ newer between at. absurd (no_drop (only_fact m newer between (check_dropped 1) at));
-    no_radar = λ has. no_radar has.chan (only_fact m has.newer has.older (radar_met 0 has.chan) has.met);
-    same_region = λ newer f between at.
-        subst (λ xs. region_of db (f ∷ xs ++ (check_begun 1 c 60000 ∷ base)) 0 ≡ region_of db (xs ++ (check_begun 1 c 60000 ∷ base)) 0) (sym (only_first m newer between f at))
-        (subst (λ g. region_of db (g ∷ (check_begun 1 c 60000 ∷ base)) 0 ≡ region_of db (check_begun 1 c 60000 ∷ base) 0) (only_fact m newer between f at) refl);
-  };
-  over = late;
-  lasts = inr (λ lapsed.
-      let least = lapsed.is_last.none_above 60000 (inl refl) in
-      let long = lapsed.long_ago in
-      let now = calm_now m lapsed.older (calm_older m lapsed.newer lapsed.older (subst (AreCalm m) lapsed.split (calm_row p name c m))) in
-      omega (arith, least, long, now, soon));
+counts_then : (db : List Domain) (p : Abilities) (name : List ℕ) (c : ChanDef) (m s : ℕ) → IsCovered c s → Counts db (checked_row p name c m) 0 s 60000
+counts_then db p name c m s covered = record {
+  newer = moment_is m ∷ [];
+  iface = 1;
+  chan = c;
+  length = 60000;
+  older = base;
+  begun = refl;
+  on_radio = refl;
+  covered = covered;
+  ends = refl;
+  kept = λ newer between at. absurd (no_drop (only_fact m newer between (check_dropped 1) at));
+  no_radar = λ has. no_radar has.chan (only_fact m has.newer has.older (radar_met 0 has.chan) has.met);
+  same_region = λ newer f between at.
+      subst (λ xs. region_of db (f ∷ xs ++ (check_begun 1 c 60000 ∷ base)) 0 ≡ region_of db (xs ++ (check_begun 1 c 60000 ∷ base)) 0) (sym (only_first m newer between f at))
+      (subst (λ g. region_of db (g ∷ (check_begun 1 c 60000 ∷ base)) 0 ≡ region_of db (check_begun 1 c 60000 ∷ base) 0) (only_fact m newer between f at) refl);
 }
   where
     base : Journal
@@ -148,6 +140,22 @@ stands_then db p name c m s covered late soon = record {
 
     no_radar : (d : ChanDef) → moment_is m ≡ radar_met 0 d → ⊥
     no_radar d at = cc
+
+pub stands_then : (db : List Domain) (p : Abilities) (name : List ℕ) (c : ChanDef) (m s : ℕ) → IsCovered c s → 60000 ≤ m → m < 62000 → Stands db (checked_row p name c m) 0 s 60000
+stands_then db p name c m s covered late soon = record {
+  counts = counts_then db p name c m s covered;
+  over = late;
+  lasts = inr (λ lapsed.
+      let least = lapsed.is_last.none_above 60000 (inl refl) in
+      let long = lapsed.long_ago in
+      let now = calm_now m lapsed.older (calm_older m lapsed.newer lapsed.older (subst (AreCalm m) lapsed.split (calm_row p name c m))) in
+      omega (arith, least, long, now, soon));
+}
+
+-- in the region ETSI no check lapses
+pub stands_on : (db : List Domain) (p : Abilities) (name : List ℕ) (c : ChanDef) (m s : ℕ) → IsCovered c s → 60000 ≤ m → region_of db (checked_row p name c m) 0 ≡ Etsi
+    → Stands db (checked_row p name c m) 0 s 60000
+stands_on db p name c m s covered late etsi = record { counts = counts_then db p name c m s covered; over = late; lasts = inl etsi }
 
 pub none_late : (db : List Domain) (p : Abilities) (name : List ℕ) (c : ChanDef) (m s : ℕ) → 62000 ≤ m → region_of db (checked_row p name c m) 0 ≢ Etsi
     → NoneStands db (checked_row p name c m) 0 s

@@ -1,5 +1,5 @@
 -- What is answered without a request: what a start or a check would come to, and the state of a channel; and what is published.
-use Rattle.std.specs.Prelude.{◌≡◌, ℕ, List, [], ◌∷◌, take, false, Option, None, Some, IsSome, IsSomeAnd, Result, Ok, Err}
+use Rattle.std.specs.Prelude.{◌≡◌, ℕ, List, [], ◌∷◌, take, Bool, false, Option, None, Some, IsSome, IsSomeAnd, Result, Ok, Err}
 use Rattle.rule_tables.specs.declared.domain.Domain.{Domain}
 use Rattle.chan_def.specs.declared.definition.ChanDef.{ChanDef}
 use Rattle.chan_def.specs.declared.kind.Kind.{Kind}
@@ -43,6 +43,11 @@ StandsSince db J r s since = IsMost (Stands db J r s) since
 abbrev pub LeadsTo : List Domain → Journal → List Request → Journal → Type 0
 LeadsTo db J [] last = last ≡ J
 LeadsTo db J (q ∷ qs) last = (reply : Reply) × (next : Journal) × Steps db J q false reply next × LeadsTo db next qs last
+
+-- The requests, the oldest first, lead from the one journal to the other; at each of them a driver may fail or not.
+abbrev pub MayLeadTo : List Domain → Journal → List Request → Journal → Type 0
+MayLeadTo db J [] last = last ≡ J
+MayLeadTo db J (q ∷ qs) last = (failed : Bool) × (reply : Reply) × (next : Journal) × Steps db J q failed reply next × MayLeadTo db next qs last
 
 -- what is published after the first n requests: the sections of the journal to which they led
 abbrev pub AreTables : List Domain → List Request → ℕ → List Section → Type 0

@@ -17,7 +17,7 @@ use Rattle.radio_drv.specs.Names.{IsName}
 use Rattle.reg_journal.specs.Requests.{IsRadioNo}
 use Rattle.reg_journal.specs.declared.effects.Effect.{Effect}
 use Rattle.reg_journal.specs.declared.effects.Effect.TheVariants.{Stopped, Dropped, Power as PowerGiven}
-use Rattle.reg_journal.specs.declared.effects.TheConstants.{MOST_EFFECTS}
+use Rattle.reg_journal.specs.Effects.{HasFewEffects}
 use Rattle.reg_journal.specs.declared.refusal.Refusal.{Refusal}
 use Rattle.reg_journal.specs.declared.refusal.Refusal.TheVariants.{NoInterface, NameTaken, RadioLacks, NoRule, Width, NoOfdm, NoIr, NoOutdoor, Radar as RadarMet, Unchecked, NoCountry}
 use Rattle.reg_journal.specs.declared.reply.Answer.{Answer}
@@ -121,7 +121,7 @@ IsShownState (Running c power) = IsWholeChannel c
 -- What each reply of a step is like, and what its text and its messages need: what it carries can be shown, it tells of at most 64
 -- effects, a list of sections or of channels isn't empty, and channels are those of the channel table.
 abbrev pub IsShownReply : Reply → Type 0
-IsShownReply (Plain answer effects) = IsShownAnswer answer × (length effects ≤ MOST_EFFECTS) × All IsShownEffect effects
+IsShownReply (Plain answer effects) = IsShownAnswer answer × HasFewEffects (Plain answer effects) × All IsShownEffect effects
 IsShownReply (Regs sections) = (1 ≤ length sections) × All IsShownSection sections
 IsShownReply (ShownChannels r channels) = (1 ≤ length channels) × All (λ (c : Chan × Dfs). IsCentre c.0.khz) channels
 IsShownReply (OfRadio report) = IsRadioNo report.radio × All (λ (x : List ℕ × ℕ × Kind). IsName x.0) report.ifaces

@@ -19,3 +19,4 @@ pub mod Asking
 pub mod Codes
 pub mod Rows
 pub mod Forms
+pub mod Rulings

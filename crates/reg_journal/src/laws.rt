@@ -1,6 +1,6 @@
 //! Laws over all journals.
 
-ghost use Rattle.std.specs.Prelude.{◌≡◌, ◌≢◌, ◌↔◌, ℕ, ◌<◌, ◌≤◌, AllPairs, IsTrue, ◌⊎◌, List, [], ◌∷◌, Bool, false, Contains, Some, IsSomeAnd, Option, Result};
+ghost use Rattle.std.specs.Prelude.{◌≡◌, ◌≢◌, ◌↔◌, ℕ, ◌<◌, ◌≤◌, AllPairs, IsTrue, ◌⊎◌, List, [], ◌∷◌, Bool, false, Contains, Some, IsSomeAnd, Option, Result, take};
 ghost use Rattle.rule_tables.specs.declared.code.Region.TheVariants.{Etsi};
 ghost use Rattle.rule_tables.specs.Databases.{IsDb};
 ghost use Rattle.rule_tables.specs.declared.domain.Domain.{Domain};
@@ -11,10 +11,11 @@ ghost use Rattle.chan_def.specs.declared.kind.Kind.{Kind};
 ghost use Rattle.dfs_states.specs.declared.dfs.Dfs.{Dfs};
 ghost use Rattle.radio_drv.specs.declared.on_air.OnAir.{OnAir};
 ghost use Rattle.reg_journal.specs.Applicable.{region_of};
-ghost use Rattle.reg_journal.specs.Asking.{IsStateOn, WouldCheck, WouldStart};
+ghost use Rattle.reg_journal.specs.Asking.{AreTables, IsStateOn, MayLeadTo, WouldCheck, WouldStart};
 ghost use Rattle.reg_journal.specs.Causes.{IsFree};
 ghost use Rattle.reg_journal.specs.Codes.{code_and_errno};
 ghost use Rattle.reg_journal.specs.Due.{EachMayFollow};
+ghost use Rattle.reg_journal.specs.Dumps.{AreSections};
 ghost use Rattle.reg_journal.specs.Effects.{HasFewEffects};
 ghost use Rattle.reg_journal.specs.Facts.{Fact, Journal, after, started};
 ghost use Rattle.reg_journal.specs.Forms.{IsLineRequest, IsReplyTo, IsShownReply};
@@ -25,7 +26,8 @@ ghost use Rattle.reg_journal.specs.Present.{Iface, ifaces_of, ifaces_on, named, 
 ghost use Rattle.reg_journal.specs.Radar.{HasLapsed, IsQuiet, IsState, NoneStands, Stands};
 ghost use Rattle.reg_journal.specs.Replies.{IsRegular, Replies};
 ghost use Rattle.reg_journal.specs.Requests.{IsAskable, IsTyped};
-ghost use Rattle.reg_journal.specs.Rows.{checked_row, disturbed_row, radar_row};
+ghost use Rattle.reg_journal.specs.Rows.{checked_row, disturbed_row, radar_row, used_row};
+ghost use Rattle.reg_journal.specs.Rulings.{RulesThen, rulings};
 ghost use Rattle.reg_journal.specs.Settled.{AreSettled, IsSettled};
 ghost use Rattle.reg_journal.specs.Sweep.{AreSwept};
 ghost use Rattle.reg_journal.specs.declared.effects.Effect.{Effect};
@@ -33,6 +35,7 @@ ghost use Rattle.reg_journal.specs.declared.refusal.Refusal.{Refusal};
 ghost use Rattle.reg_journal.specs.declared.reply.Answer.TheVariants.{Checking, Started};
 ghost use Rattle.reg_journal.specs.declared.reply.Reply.{Reply};
 ghost use Rattle.reg_journal.specs.declared.reply.Reply.TheVariants.{Plain};
+ghost use Rattle.reg_journal.specs.declared.report.Section.{Section};
 ghost use Rattle.reg_journal.specs.declared.request.Request.TheVariants.{Check, Start};
 ghost use Rattle.reg_journal.specs.declared.request.Request.{Request};
 
@@ -148,13 +151,13 @@ pub fn one_state_of_each_centre()
         → IsStateOn db journal r s one → IsStateOn db journal r s other → one ≡ other }
 {}
 
-/// The code of each refusal is from 20 to 54, and its errno isn't 0.
+/// The code of each refusal is from 20 to 53, and its errno isn't 0.
 pub fn refusals_have_codes()
-    ensures { (e : Refusal) → (20 ≤ (code_and_errno e).0) × ((code_and_errno e).0 ≤ 54) × (0 < (code_and_errno e).1) }
+    ensures { (e : Refusal) → (20 ≤ (code_and_errno e).0) × ((code_and_errno e).0 ≤ 53) × (0 < (code_and_errno e).1) }
 {}
 
 /// A check of 60,000 ms that began at 0 stands at 60,000 ms and not at 59,999. Outside ETSI, and unused, it
-/// stands at 61,999 ms and not at 62,000.
+/// stands at 61,999 ms and not at 62,000. In ETSI it stands on.
 pub fn check_of_a_minute()
     ensures early { (db : List Domain) (profile : Abilities) (name : List ℕ) (c : ChanDef) (moment s : ℕ) → moment < 60000
         → NoneStands db (checked_row profile name c moment) 0 s }
@@ -162,6 +165,17 @@ pub fn check_of_a_minute()
         → Stands db (checked_row profile name c moment) 0 s 60000 }
     ensures lapsed { (db : List Domain) (profile : Abilities) (name : List ℕ) (c : ChanDef) (moment s : ℕ) → 62000 ≤ moment
         → region_of db (checked_row profile name c moment) 0 ≢ Etsi → NoneStands db (checked_row profile name c moment) 0 s }
+    ensures lasts { (db : List Domain) (profile : Abilities) (name : List ℕ) (c : ChanDef) (moment s : ℕ) → IsCovered c s → 60000 ≤ moment
+        → region_of db (checked_row profile name c moment) 0 ≡ Etsi → Stands db (checked_row profile name c moment) 0 s 60000 }
+{}
+
+/// A check of 60,000 ms that began at 0 is kept by an operation on its channel from 61,999 to 100,000 ms: it
+/// stands at 101,999 ms. Outside ETSI it doesn't at 102,000.
+pub fn check_of_a_used_channel()
+    ensures stands { (db : List Domain) (profile : Abilities) (name : List ℕ) (c : ChanDef) (power moment s : ℕ) → IsCovered c s
+        → 100000 ≤ moment → moment < 102000 → Stands db (used_row profile name c power moment) 0 s 60000 }
+    ensures lapsed { (db : List Domain) (profile : Abilities) (name : List ℕ) (c : ChanDef) (power moment s : ℕ) → 102000 ≤ moment
+        → region_of db (used_row profile name c power moment) 0 ≢ Etsi → NoneStands db (used_row profile name c power moment) 0 s }
 {}
 
 /// Radar at 30,000 ms beside a running check of 60,000 ms voids it for the subchannels on which radar was
@@ -195,4 +209,20 @@ pub fn replies_can_be_shown()
 /// A request that a line can say may be asked of a step.
 pub fn line_requests_are_askable()
     ensures { (q : Request) → IsLineRequest q → IsAskable q }
+{}
+
+/// A request adds to what rules the radios what it adds to it by itself: no operation, check or driver
+/// bears on it. There is one such addition.
+pub fn rules_by_themselves()
+    ensures then { (db : List Domain) (journal : Journal) (q : Request) (failed : Bool) (reply : Reply) (facts : List Fact)
+        → Replies db journal q failed reply facts → RulesThen db (rulings journal) q (rulings (after facts journal)) }
+    ensures one { (db : List Domain) (before : Journal) (q : Request) (one other : Journal) → RulesThen db before q one → RulesThen db before q other → one ≡ other }
+{}
+
+/// The sections after requests are the same, whichever drivers fail; so the tables are those of each course.
+pub fn sections_whichever_drivers_fail()
+    ensures same { (db : List Domain) (qs : List Request) (journal one other : Journal) (sections : List Section)
+        → MayLeadTo db journal qs one → MayLeadTo db journal qs other → AreSections db one sections → AreSections db other sections }
+    ensures tables { (db : List Domain) (qs : List Request) (n : ℕ) (journal : Journal) (sections : List Section)
+        → AreTables db qs n sections → MayLeadTo db [] (take n qs) journal → AreSections db journal sections }
 {}

@@ -75,6 +75,4 @@ pub enum Refusal {
     ElementOdd(usize),
     /// The element's body doesn't begin with two capital letters.
     ElementNotLetters,
-    /// The request isn't built yet.
-    NotBuilt,
 }
