@@ -5,8 +5,9 @@ use Rattle.rule_tables.specs.Databases.{IsDb}
 use Rattle.rule_tables.specs.declared.domain.Domain.{Domain}
 use Rattle.rule_intersect.specs.Tables.{IsTableOf}
 use Rattle.reg_hints.specs.Table.{no_hints}
-use Rattle.reg_core.specs.Kept.{KeepsRadios, StandsFor}
-use Rattle.reg_core.specs.inner.Lists.{global_by}
+use Rattle.core_parts.specs.Kept.{KeepsRadios}
+use Rattle.reg_core.specs.Kept.{StandsFor}
+use Rattle.reg_books.specs.Lists.{global_by}
 use Rattle.reg_core.specs.declared.core_state.Core.{Core}
 
 pub stands_at_first : (db : List Domain) (core : Core) → IsDb db → core.domains ≡ db → core.clock ≡ 0 → core.indoor ≡ false → core.hints ≡ no_hints → core.made ≡ 0

@@ -20,19 +20,19 @@ use Rattle.reg_journal.proofs.Permitting.{free-first, free-next}
 use Rattle.reg_journal.proofs.Ranges.{length_fits}
 use Rattle.reg_journal.proofs.Regular.{is_none}
 use Rattle.reg_core.proofs.NextJournals.{plain_where_due}
-use Rattle.reg_core.specs.DriverRows.{AreDriven, driver_at}
+use Rattle.reg_books.specs.DriverRows.{AreDriven, driver_at}
 use Rattle.reg_core.specs.Kept.{Keeps, StandsFor}
 use Rattle.reg_core.specs.Stepping.{is_failure}
-use Rattle.reg_core.specs.Told.{DriverFails, DriverHears, OneGoes}
-use Rattle.reg_core.specs.inner.Changes.{IsInterfaceOf}
+use Rattle.reg_books.specs.Told.{DriverFails, DriverHears, OneGoes}
+use Rattle.core_parts.specs.Changes.{IsInterfaceOf}
 use Rattle.reg_core.specs.inner.Checking.{CheckBegins, HasCheckable, HasRestingIface}
-use Rattle.reg_core.specs.inner.Judging.{BarsBeginning, IsJudged}
-use Rattle.reg_core.specs.declared.radio.Radio.{Radio}
+use Rattle.core_parts.specs.Judging.{BarsBeginning, IsJudged}
+use Rattle.core_parts.specs.declared.radio.Radio.{Radio}
 use Rattle.reg_core.specs.inner.Starting.{Falls}
 use Rattle.reg_core.specs.declared.core_state.Core.{Core}
-use Rattle.reg_core.specs.declared.interface.Interface.{Interface}
+use Rattle.core_parts.specs.declared.interface.Interface.{Interface}
 use Rattle.reg_core.proofs.KeptChanges.{interface_of_kept}
-use Rattle.reg_core.proofs.Listed.{indexed_listed, named_listed}
+use Rattle.reg_journal.proofs.Listed.{indexed_listed, named_listed}
 use Rattle.reg_core.proofs.StartReasons.{lowest_is_no_failure}
 
 pub check_barred : (db : List Domain) (J : Journal) (name : List ℕ) (c : ChanDef) (failed : Bool) (x : Iface) (e : Refusal) → named J name ≡ Some x

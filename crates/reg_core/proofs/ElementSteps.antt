@@ -30,18 +30,19 @@ use Rattle.reg_journal.specs.declared.reply.Reply.{Reply}
 use Rattle.reg_journal.specs.declared.reply.Reply.TheVariants.{Plain}
 use Rattle.reg_journal.specs.declared.request.Request.TheVariants.{Element as HeardElement}
 use Rattle.reg_journal.proofs.Granting.{free-before, free-where}
-use Rattle.reg_core.specs.Kept.{KeepsRadio, StandsFor}
-use Rattle.reg_core.specs.Stepping.{IsStep, is_failure}
+use Rattle.core_parts.specs.Kept.{KeepsRadio}
+use Rattle.reg_core.specs.Kept.{StandsFor}
+use Rattle.reg_core.specs.Stepping.{OneStep, is_failure}
 use Rattle.reg_core.specs.inner.Deciding.{IsReason}
 use Rattle.reg_core.specs.inner.Elements.{BarsElement, HasHint, HearsElement}
 use Rattle.reg_core.specs.inner.HintsTaken.{TakesHint}
 use Rattle.std.proofs.Common.{Result, Ok as RustOk, Err}
 use Rattle.reg_core.specs.declared.core_state.Core.{Core}
 use Rattle.reg_core.specs.declared.declined.Declined.{Declined}
-use Rattle.reg_core.specs.declared.declined.Declined.TheVariants.{Refused as ByRefusal, PutOff, OutOfMemory}
-use Rattle.reg_core.specs.declared.radio.Radio.{Radio}
+use Rattle.reg_core.specs.declared.declined.Declined.TheVariants.{Refused as ByRefusal, OutOfMemory}
+use Rattle.core_parts.specs.declared.radio.Radio.{Radio}
 use Rattle.reg_core.proofs.OneSteps.{hint_is_no_failure, step_of_refusal}
-use Rattle.reg_core.proofs.RadarRefusals.{abilities_kept}
+use Rattle.core_parts.proofs.RadarRefusals.{abilities_kept}
 use Rattle.reg_core.proofs.SweptSteps.{swept_step}
 
 -- ---- faults
@@ -97,11 +98,10 @@ hint_heard db J r body radio e a deaf hint keeps is code deaf_is same =
 -- what comes of the hint comes of the element
 pub heard_so : (db : List Domain) (J : Journal) (r : ℕ) (body : List ℕ) (a : Alpha2) (hint : Hint) (new : Core) (row row' : List (Option Seen))
     (result : Result (Treatment × List Effect) Declined) → HasHint J r body a hint
-    → MatchResult result (λ p. TakesHint db J hint p.0 new row row' p.1) (IsReason (HintCauses db J (Treated hint)) ⊥)
-    → MatchResult result (λ p. HearsElement db J r body p.0 new row row' p.1) (IsReason (BarsElement db J r body) ⊥)
+    → MatchResult result (λ p. TakesHint db J hint p.0 new row row' p.1) (IsReason (HintCauses db J (Treated hint)))
+    → MatchResult result (λ p. HearsElement db J r body p.0 new row row' p.1) (IsReason (BarsElement db J r body))
 heard_so db J r body a hint new row row' (RustOk p) has takes = record { code = a; hint = hint; has = has; takes = takes }
 heard_so db J r body a hint new row row' (Err (ByRefusal e)) has cause = inr (record { code = a; hint = hint; has = has; cause = cause })
-heard_so db J r body a hint new row row' (Err PutOff) has off = off
 heard_so db J r body a hint new row row' (Err OutOfMemory) has none = tt
 
 -- ---- steps
@@ -117,19 +117,19 @@ heard : (db : List Domain) (J : Journal) (r : ℕ) (body : List ℕ) (a : Alpha2
 heard db J r body a hint reply facts has is = subst (λ h. Hints db J (Treated h) reply facts) has.hint_is is
 
 pub element_refused : (db : List Domain) (J : Journal) (r : ℕ) (body : List ℕ) (e : Refusal) (old new : Core) (row row' : List (Option Seen)) → StandsFor db old J
-    → BarsElement db J r body e → new ≡ old → row' ≡ row → IsStep db J (HeardElement r body) old new row row' (Plain (Refused e) [])
+    → BarsElement db J r body e → new ≡ old → row' ≡ row → OneStep db J (HeardElement r body) old new row row' (Plain (Refused e) [])
 element_refused db J r body e old new row row' s (inl bad) same same' =
-    step_of_refusal db J (HeardElement r body) e old new row row' tt (bad_is_no_failure J r body e bad) tt ([], inl (e, bad, refl, refl), refl) s same same' (λ r was. refl)
+    step_of_refusal db J (HeardElement r body) e old new row row' (bad_is_no_failure J r body e bad) tt ([], inl (e, bad, refl, refl), refl) s same same' (λ r was. refl)
 element_refused db J r body e old new row row' s (inr bars) same same' =
-    step_of_refusal db J (HeardElement r body) e old new row row' tt (hint_is_no_failure db J (Treated bars.hint) e bars.cause) tt
+    step_of_refusal db J (HeardElement r body) e old new row row' (hint_is_no_failure db J (Treated bars.hint) e bars.cause) tt
     ([], inr (bars.has.free, (bars.has.element, bars.has.is_element, heard db J r body bars.code bars.hint (Plain (Refused e) []) [] bars.has (inl (e, bars.cause, refl, refl)))), refl)
     s same same' (λ r was. refl)
 
 pub element_taken : (db : List Domain) (J : Journal) (r : ℕ) (body : List ℕ) (t : Treatment) (effects : List Effect) (old new : Core) (row row' : List (Option Seen)) → StandsFor db old J
-    → HearsElement db J r body t new row row' effects → IsStep db J (HeardElement r body) old new row row' (Plain (HintTaken (ByTable t)) effects)
+    → HearsElement db J r body t new row row' effects → OneStep db J (HeardElement r body) old new row row' (Plain (HintTaken (ByTable t)) effects)
 element_taken db J r body t effects old new row row' s hears =
     let takes = hears.takes in
-    swept_step db J (HeardElement r body) (hinted (Treated hears.hint)) (ifaces_of J) (HintTaken (ByTable t)) effects old new row row' tt s tt refl refl tt refl (λ r was. refl) (λ i. refl)
+    swept_step db J (HeardElement r body) (hinted (Treated hears.hint)) (ifaces_of J) (HintTaken (ByTable t)) effects old new row row' s tt refl refl tt refl (λ r was. refl) (λ i. refl)
     (λ swept are. inr (
       hears.has.free,
       (

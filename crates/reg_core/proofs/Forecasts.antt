@@ -29,16 +29,16 @@ use Rattle.reg_journal.specs.declared.refusal.Refusal.{Refusal}
 use Rattle.reg_journal.specs.declared.refusal.Refusal.TheVariants.{Busy, NothingToCheck, WrongType}
 use Rattle.reg_journal.proofs.EachRegular.{CheckCausesOn}
 use Rattle.reg_journal.proofs.Granting.{free-before, free-where, free_of_granted, power_of_granted}
-use Rattle.reg_core.specs.Calls.{calls_of, opening_of}
-use Rattle.reg_core.specs.Kept.{KeepsRadio, kept}
-use Rattle.reg_core.specs.inner.Judging.{BarsBeginning, as_auto}
-use Rattle.reg_core.specs.inner.Reading.{BarsCheckAtFirst, BarsStartAtFirst, MayBeChecked, MayBeStarted}
-use Rattle.reg_core.specs.declared.interface.Interface.{Interface}
-use Rattle.reg_core.specs.declared.radio.Radio.{Radio}
+use Rattle.reg_books.specs.Calls.{calls_of, opening_of}
+use Rattle.core_parts.specs.Kept.{KeepsRadio, kept}
+use Rattle.core_parts.specs.Judging.{BarsBeginning, as_auto}
+use Rattle.core_parts.specs.Reading.{BarsCheckAtFirst, BarsStartAtFirst, MayBeChecked, MayBeStarted}
+use Rattle.core_parts.specs.declared.interface.Interface.{Interface}
+use Rattle.core_parts.specs.declared.radio.Radio.{Radio}
 use Rattle.reg_core.proofs.CheckReasons.{check_barred, check_free, check_where_barred}
-use Rattle.reg_core.proofs.RadarRefusals.{abilities_kept}
+use Rattle.core_parts.proofs.RadarRefusals.{abilities_kept}
 use Rattle.reg_core.proofs.StartReasons.{BarsStart, start_barred}
-use Rattle.reg_core.proofs.States.{state_alike}
+use Rattle.reg_books.proofs.States.{state_alike}
 
 -- ---- a start
 

@@ -1,37 +1,36 @@
 -- A hint that changes the regions of radios.
-use Rattle.std.proofs.Common.{◌≡◌, ℕ, ◌<◌, ◌+◌, ◌==◌, Bool, true, false, not, List, [], ◌∷◌, ◌++◌, length, get_or, Contains, Option, Some, None, IsSome, MatchBool, is_some, arith, refl, sym, ap, subst, ◌∙◌, inl, inr}
+use Rattle.std.proofs.Common.{◌≡◌, ℕ, ◌<◌, ◌+◌, Bool, true, false, not, List, [], ◌∷◌, length, get_or, Option, Some, None, IsSome, MatchBool, is_some, arith, refl, sym, ap, subst, ◌∙◌, inl, inr}
 use Rattle.std.proofs.Math.ListN.{set}
-use Rattle.std.proofs.lemmas.Bool.{cases_Bool, cases_eq, false≢true}
-use Rattle.std.proofs.lemmas.List.{get_or-set_other, get_or-set_same, get_or_default}
+use Rattle.std.proofs.lemmas.Bool.{cases_eq, false≢true}
+use Rattle.std.proofs.lemmas.List.{get_or-set_other, get_or-set_same}
 use Rattle.rule_tables.specs.Regions.{is_same_region}
 use Rattle.rule_tables.specs.declared.code.Region.{Region}
 use Rattle.rule_tables.specs.declared.domain.Domain.{Domain}
-use Rattle.reg_hints.specs.Table.{State, Treated}
+use Rattle.reg_hints.specs.Table.{Hinted, State, Treated}
 use Rattle.reg_hints.specs.declared.hint.Hint.{Hint}
 use Rattle.reg_journal.specs.Applicable.{hints_of, region_of}
 use Rattle.reg_journal.specs.Due.{EachMayFollow}
 use Rattle.reg_journal.specs.Facts.{Fact, Journal, check_begun, hinted}
-use Rattle.reg_journal.specs.Present.{Check, Iface, Operation, check_of, ifaces_of, operation_of, profile_of}
-use Rattle.reg_journal.specs.Radar.{HasCheck}
+use Rattle.reg_journal.specs.Present.{Check, Iface, Operation, check_of, operation_of, profile_of}
 use Rattle.reg_journal.specs.Sweep.{RegionChangedInCheck}
 use Rattle.reg_journal.proofs.Judged.{settled_check}
 use Rattle.reg_journal.proofs.LastCheck.{check_parts, last_check}
 use Rattle.reg_journal.proofs.Lasting.{region_changed_before}
 use Rattle.reg_journal.proofs.Operations.{BeginsCheck, check_ran, no_check_beside}
 use Rattle.reg_journal.proofs.Splits.{check_cases}
-use Rattle.reg_core.specs.Kept.{Keeps, KeepsPlace, KeepsRadio, KeepsRadios, StandsFor}
-use Rattle.reg_core.specs.inner.Hinting.{place_moved}
-use Rattle.reg_core.specs.inner.Lists.{region_by}
+use Rattle.core_parts.specs.Kept.{KeepsPlace}
+use Rattle.reg_core.specs.Kept.{StandsFor}
+use Rattle.core_parts.specs.Hinting.{place_moved}
+use Rattle.reg_books.specs.Lists.{region_by}
 use Rattle.reg_core.specs.inner.Sweeping.{AreMoved}
 use Rattle.reg_core.specs.declared.core_state.Core.{Core}
-use Rattle.reg_core.specs.declared.radio.Radio.{Radio}
-use Rattle.reg_core.specs.declared.radio.RadioPlace.{RadioPlace}
-use Rattle.reg_core.specs.declared.radio.RadioPlace.TheVariants.{Free, Removed, There}
-use Rattle.reg_core.proofs.CallOf.{same_region_self, same_region_true}
-use Rattle.reg_core.proofs.KeptOn.{region-after, region-before}
-use Rattle.reg_core.proofs.Newcomers.{profile_of-unused}
-use Rattle.reg_core.proofs.Room.{radio_there}
-use Rattle.reg_core.proofs.Operating.{there_small}
+use Rattle.core_parts.specs.declared.radio.RadioPlace.{RadioPlace}
+use Rattle.core_parts.specs.declared.radio.RadioPlace.TheVariants.{Free, Removed, There}
+use Rattle.reg_books.proofs.CallOf.{same_region_self, same_region_true}
+use Rattle.core_parts.proofs.KeptOn.{region-after, region-before}
+use Rattle.reg_books.proofs.Newcomers.{profile_of-unused}
+use Rattle.reg_journal.proofs.Radios.{radio_there}
+use Rattle.reg_journal.proofs.Operating.{there_small}
 
 -- ---- one radio
 
@@ -67,20 +66,19 @@ moved_in_check db J f x k here begins differs =
 other_regions : (one other : Region) → is_same_region one other ≡ false → one ≡ other → ⊥
 other_regions one other differs same = false≢true (sym differs ∙ subst (λ x. is_same_region one x ≡ true) same (same_region_self one))
 
-pub hint_moves : (db : List Domain) (J : Journal) (hint : Hint) (core : Core) (after : State) (moved : List Bool) → StandsFor db core J → EachMayFollow db (hinted (Treated hint) ∷ J)
-    → hints_of (hinted (Treated hint) ∷ J) ≡ after
-    → ((r : ℕ) → r < 8 → get_or moved r false ≡ place_moved core.domains core.hints after hint r (get_or core.radios r Free)) → AreMoved db (hinted (Treated hint) ∷ J) moved
-hint_moves db J hint core after moved s due led flags x k there here =
+-- the flags say of each radio that is there whether the hint changes its region
+pub hinted_moves : (db : List Domain) (J : Journal) (h : Hinted) (core : Core) (moved : List Bool) → StandsFor db core J → EachMayFollow db (hinted h ∷ J)
+    → ((r : ℕ) → r < 8 → IsSome (profile_of J r) → get_or moved r false ≡ not (is_same_region (region_of db (hinted h ∷ J) r) (region_of db J r)))
+    → AreMoved db (hinted h ∷ J) moved
+hinted_moves db J h core moved s due flags x k there here =
     let profile = radio_there db J x s.keeps.due there in
     let below = there_small db J x.radio s.keeps.due profile in
     let was = check_ran db f J x.index k due (λ begins. let at = begins.2 in cc) here in
-    let told : get_or moved x.radio false ≡ not (is_same_region (region_of db (f ∷ J) x.radio) (region_of db J x.radio)) =
-    flags x.radio below ∙ ap (λ ds. place_moved ds core.hints after hint x.radio (get_or core.radios x.radio Free)) s.keeps.domains ∙ moved_of_place db J x.radio hint core.hints after (get_or core.radios x.radio Free) (s.keeps.radios x.radio below) profile (sym s.keeps.hints) led in
-    subst (λ b. MatchBool b (RegionChangedInCheck db (f ∷ J) x) (RegionChangedInCheck db (f ∷ J) x → ⊥)) (sym told)
+    subst (λ b. MatchBool b (RegionChangedInCheck db (f ∷ J) x) (RegionChangedInCheck db (f ∷ J) x → ⊥)) (sym (flags x.radio below profile))
     (by (is_same_region (region_of db (f ∷ J) x.radio) (region_of db J x.radio)) refl was)
   where
     f : Fact
-    f = hinted (Treated hint)
+    f = hinted h
 
     idle : (o : Option Operation) → operation_of J x.index ≡ o → check_of J x.index ≡ Some k → operation_of J x.index ≡ None
     idle None is was = is
@@ -93,11 +91,10 @@ hint_moves db J hint core after moved s due led flags x k there here =
         (region_changed_before db f J x (same_region_true (region_of db (f ∷ J) x.radio) (region_of db J x.radio) same) changed)
     by false differs was = moved_in_check db J f x k was (λ begins. let at = begins.2 in cc) (other_regions (region_of db (f ∷ J) x.radio) (region_of db J x.radio) differs)
 
--- ---- flags that are set one after the other
-
-pub flags_more : (flags : List Bool) (at : ℕ → Bool) (n : ℕ) (b : Bool) → n < length flags → ((r : ℕ) → r < n → get_or flags r false ≡ at r) → b ≡ at n
-    → (r : ℕ) → r < n + 1 → get_or (set flags n b) r false ≡ at r
-flags_more flags at n b within so_far is r below = elim (cases_eq r n) [
-  | inl same ↦ subst (λ k. get_or (set flags n b) k false ≡ at k) (sym same) (get_or-set_same flags n b false within ∙ is)
-  | inr other ↦ get_or-set_other flags n r b false other ∙ so_far r (omega (arith, below, other))
-]
+pub hint_moves : (db : List Domain) (J : Journal) (hint : Hint) (core : Core) (after : State) (moved : List Bool) → StandsFor db core J → EachMayFollow db (hinted (Treated hint) ∷ J)
+    → hints_of (hinted (Treated hint) ∷ J) ≡ after
+    → ((r : ℕ) → r < 8 → get_or moved r false ≡ place_moved core.domains core.hints after hint r (get_or core.radios r Free)) → AreMoved db (hinted (Treated hint) ∷ J) moved
+hint_moves db J hint core after moved s due led flags =
+    hinted_moves db J (Treated hint) core moved s due (λ r below there.
+    flags r below ∙ ap (λ ds. place_moved ds core.hints after hint r (get_or core.radios r Free)) s.keeps.domains
+    ∙ moved_of_place db J r hint core.hints after (get_or core.radios r Free) (s.keeps.radios r below) there (sym s.keeps.hints) led)

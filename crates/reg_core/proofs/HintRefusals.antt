@@ -1,6 +1,5 @@
 -- What speaks against a hint, by the lists that have tables after it.
-use Rattle.std.proofs.Common.{◌≡◌, ℕ, zero, suc, ◌+◌, ◌<◌, List, [], ◌∷◌, length, get_or, Option, Some, None, IsSome, arith, refl, sym, subst, ap, ap₂, ◌∙◌, inl, inr, add-zero, zero-add}
-use Rattle.std.proofs.lemmas.Option.{none-some}
+use Rattle.std.proofs.Common.{◌≡◌, ℕ, suc, ◌+◌, ◌<◌, List, [], ◌∷◌, length, get_or, Option, Some, None, IsSome, arith, refl, sym, subst, ap, ap₂, ◌∙◌, inl, inr, add-zero, zero-add}
 use Rattle.rule_tables.specs.declared.code.Alpha2.{Alpha2}
 use Rattle.rule_tables.specs.declared.domain.Domain.{Domain}
 use Rattle.rule_intersect.specs.Tables.{IsTableOf, Joined}
@@ -11,38 +10,27 @@ use Rattle.reg_hints.specs.declared.hint.Hint.{Hint}
 use Rattle.reg_journal.specs.Applicable.{AddsFifthCode, code_of_hint, find_domain, hints_of}
 use Rattle.reg_journal.specs.Causes.{IsFree}
 use Rattle.reg_journal.specs.Facts.{Journal, hinted}
-use Rattle.reg_journal.specs.Refusals.{HintCauses, IsTooLongAt, RowCauses, all_lists}
+use Rattle.reg_journal.specs.Refusals.{HintCauses, RowCauses, all_lists}
 use Rattle.reg_journal.specs.declared.refusal.Refusal.TheVariants.{NoCountry, TooManyDomains}
 use Rattle.reg_journal.proofs.Granting.{free-before, free-where}
 use Rattle.reg_core.specs.inner.Deciding.{IsReason}
-use Rattle.reg_core.specs.inner.Hinting.{IsNewTable, IsRowsFault, lists_after}
-use Rattle.reg_core.specs.Kept.{KeepsRadios}
-use Rattle.reg_core.specs.inner.Lists.{global_by}
+use Rattle.core_parts.specs.Hinting.{IsNewTable, IsRowsFault, lists_after}
+use Rattle.core_parts.specs.Kept.{KeepsRadios}
+use Rattle.reg_books.specs.Lists.{global_by}
 use Rattle.reg_core.specs.inner.Outcomes.{AreHintTables}
 use Rattle.reg_core.specs.declared.declined.Declined.{Declined}
-use Rattle.reg_core.specs.declared.declined.Declined.TheVariants.{Refused, PutOff, OutOfMemory as NoMemory}
+use Rattle.reg_core.specs.declared.declined.Declined.TheVariants.{Refused, OutOfMemory as NoMemory}
 use Rattle.reg_core.specs.declared.hint_outcomes.HintTables.{HintTables}
-use Rattle.reg_core.specs.declared.radio.RadioPlace.{RadioPlace}
-use Rattle.reg_core.specs.declared.radio.RadioPlace.TheVariants.{Free, Removed, There}
-use Rattle.reg_core.proofs.AllLists.{lists_of_radios}
-use Rattle.reg_core.proofs.RowRefusals.{later_too_long, not_too_long}
+use Rattle.core_parts.specs.declared.radio.RadioPlace.{RadioPlace}
+use Rattle.core_parts.specs.declared.radio.RadioPlace.TheVariants.{Free, Removed, There}
+use Rattle.core_parts.proofs.AllLists.{lists_of_radios}
+use Rattle.core_parts.proofs.RowRefusals.{NoneTooLong, also_not_too_long, free_of_rows, later_too_long, none_too_long}
 
 -- ---- lists that have tables
 
--- none of the lists has too many rows
-abbrev NoneTooLong : List (List Domain) → Type 0
-NoneTooLong lists = (k : ℕ) → IsTooLongAt lists k → ⊥
-
-also_not_too_long : (ds : List Domain) (table : Joined) (lists : List (List Domain)) → IsTableOf ds table → NoneTooLong lists → NoneTooLong (ds ∷ lists)
-also_not_too_long ds table lists is none zero long = not_too_long ds table lists is long
-also_not_too_long ds table lists is none (suc k) long = none k long
-
 with_tables : (db : List Domain) (hints : State) (hint : Hint) (places : List RadioPlace) (r : ℕ)
     → ((k : ℕ) → k < length places → (table : Option Joined) × IsNewTable db hints hint (r + k) (get_or places k Free) table) → NoneTooLong (lists_after db hints hint r places)
-with_tables db hints hint [] r each = none_of_none
-  where
-    none_of_none : NoneTooLong []
-    none_of_none k (ds, at, long) = absurd (none-some ds at)
+with_tables db hints hint [] r each = none_too_long
 with_tables db hints hint (place ∷ places) r each =
     let here = each 0 (omega arith) in
     at_place place here.0 (subst (λ n. IsNewTable db hints hint n place here.0) (add-zero r) here.1)
@@ -60,10 +48,11 @@ with_tables db hints hint (place ∷ places) r each =
     at_place (There radio) None is rest = absurd is
     at_place (There radio) (Some table) is rest = also_not_too_long _ table _ is rest
 
-free_of_rows : (db : List Domain) (hints : State) (hint : Hint) (places : List RadioPlace) (tables : HintTables) → AreHintTables db hints hint places tables
+free_of_all_rows : (db : List Domain) (hints : State) (hint : Hint) (places : List RadioPlace) (tables : HintTables) → AreHintTables db hints hint places tables
     → IsFree (RowCauses (global_by db hints ∷ lists_after db hints hint 0 places))
-free_of_rows db hints hint places tables are e cause =
-    also_not_too_long (global_by db hints) tables.global (lists_after db hints hint 0 places) are.global (with_tables db hints hint places 0 each) cause.0 cause.1.here
+free_of_all_rows db hints hint places tables are =
+    free_of_rows (global_by db hints ∷ lists_after db hints hint 0 places)
+    (also_not_too_long (global_by db hints) tables.global (lists_after db hints hint 0 places) are.global (with_tables db hints hint places 0 each))
   where
     each : (k : ℕ) → k < length places → (table : Option Joined) × IsNewTable db hints hint (0 + k) (get_or places k Free) table
     each k below =
@@ -98,16 +87,21 @@ pub free_of_tables : (db : List Domain) (J : Journal) (hint : Hint) (led : State
 free_of_tables db J hint led places tables may eight kept are =
     free-before _ _ (free-where _ _ may.known)
     (free-before _ _ (free-where _ _ may.few)
-    (subst (λ lists. IsFree (RowCauses lists)) (lists_after_hint db J hint led places eight kept may.led_is) (free_of_rows db led hint places tables are)))
+    (subst (λ lists. IsFree (RowCauses lists)) (lists_after_hint db J hint led places eight kept may.led_is) (free_of_all_rows db led hint places tables are)))
+
+-- the rows alone speak against a hint for a known code that adds no fifth one
+pub hint_barred : (db : List Domain) (J : Journal) (hint : Hinted) (d : Declined) → (find_domain db (code_of_hint hint) ≡ None → ⊥) → (AddsFifthCode J hint → ⊥)
+    → IsReason (RowCauses (all_lists db (hinted hint ∷ J))) d → IsReason (HintCauses db J hint) d
+hint_barred db J hint (Refused e) known few cause = inr (free-where _ _ known, inr (free-where _ _ few, cause))
+hint_barred db J hint NoMemory known few reason = tt
 
 -- and else the rows do
 pub reason_of_rows : (db : List Domain) (J : Journal) (hint : Hint) (led : State) (places : List RadioPlace) (d : Declined) → MayLead db J hint led
-    → length places ≡ 8 → KeepsRadios db J places → IsReason (RowCauses (global_by db led ∷ lists_after db led hint 0 places)) ⊥ d
-    → IsReason (HintCauses db J (Treated hint)) ⊥ d
-reason_of_rows db J hint led places (Refused e) may eight kept cause =
-    inr (free-where _ _ may.known, inr (free-where _ _ may.few, subst (λ lists. RowCauses lists e) (lists_after_hint db J hint led places eight kept may.led_is) cause))
-reason_of_rows db J hint led places PutOff may eight kept off = off
-reason_of_rows db J hint led places NoMemory may eight kept reason = tt
+    → length places ≡ 8 → KeepsRadios db J places → IsReason (RowCauses (global_by db led ∷ lists_after db led hint 0 places)) d
+    → IsReason (HintCauses db J (Treated hint)) d
+reason_of_rows db J hint led places d may eight kept reason =
+    hint_barred db J (Treated hint) d may.known may.few
+    (subst (λ lists. IsReason (RowCauses lists) d) (lists_after_hint db J hint led places eight kept may.led_is) reason)
 
 -- ---- a hint that nothing speaks against
 

@@ -5,23 +5,24 @@ use Rattle.rule_tables.specs.declared.domain.Domain.{Domain}
 use Rattle.reg_journal.specs.Applicable.{hints_of}
 use Rattle.chan_def.specs.declared.definition.ChanDef.{ChanDef}
 use Rattle.dfs_states.specs.Calls.{Radar as RadarCall}
-use Rattle.reg_core.specs.Calls.{call_of}
-use Rattle.reg_core.specs.inner.BookCalls.{SpeaksToBooks}
-use Rattle.reg_core.specs.inner.Sparing.{SparesRadio}
-use Rattle.reg_core.proofs.CallOf.{call-radar}
+use Rattle.reg_books.specs.Calls.{call_of}
+use Rattle.core_parts.specs.BookCalls.{SpeaksToBooks}
+use Rattle.reg_books.specs.Sparing.{SparesRadio}
+use Rattle.reg_books.proofs.CallOf.{call-radar}
 use Rattle.reg_journal.specs.Due.{EachMayFollow, MayFollow}
-use Rattle.reg_journal.specs.Facts.{Fact, Journal, indoor_is, radar_met, started, stopped, powered, check_begun, check_dropped}
+use Rattle.reg_journal.specs.Facts.{Fact, Journal, indoor_is, radar_met, ended, typed, set_to, started, stopped, powered, check_begun, check_dropped}
 use Rattle.reg_journal.specs.Present.{Iface, Operation, ifaces_of, is_indoor, made_of, now_of, operation_of, operation_with_power}
-use Rattle.reg_core.specs.Kept.{Keeps, KeepsRadios, interfaces_of, kept, kept_operation}
-use Rattle.reg_core.specs.inner.Changes.{IsInterfaceOf}
-use Rattle.reg_core.specs.inner.Interfaces.{running_with_power, with_operation, with_running_power}
-use Rattle.reg_core.specs.inner.Operating.{TellsRunning}
+use Rattle.reg_core.specs.Kept.{Keeps}
+use Rattle.core_parts.specs.Kept.{KeepsRadios, interfaces_of, kept, kept_operation}
+use Rattle.core_parts.specs.Changes.{IsInterfaceOf}
+use Rattle.core_parts.specs.Interfaces.{running_with_power, with_operation, with_running_power}
+use Rattle.core_parts.specs.Operating.{TellsRunning}
 use Rattle.reg_core.specs.declared.core_state.Core.{Core}
-use Rattle.reg_core.specs.declared.interface.Interface.{Interface}
-use Rattle.reg_core.specs.declared.interface.Running.{Running}
-use Rattle.reg_core.specs.declared.radio.RadioPlace.{RadioPlace}
-use Rattle.reg_core.proofs.KeptInterfaces.{interfaces_of-started, interfaces_of-stopped, map-listed, map-map}
-use Rattle.reg_core.proofs.Unchanged.{KeepsRadios-spared}
+use Rattle.core_parts.specs.declared.interface.Interface.{Interface}
+use Rattle.core_parts.specs.declared.interface.Running.{Running}
+use Rattle.core_parts.specs.declared.radio.RadioPlace.{RadioPlace}
+use Rattle.core_parts.proofs.KeptInterfaces.{interfaces_of-started, interfaces_of-stopped, map-listed, map-map}
+use Rattle.core_parts.proofs.Unchanged.{KeepsRadios-spared}
 
 -- ---- the interface that is kept
 
@@ -40,6 +41,9 @@ interface_of_kept J x p there is = record {
 -- the fact says nothing of the moment, of the place, of hints, and makes no interface
 abbrev pub LeavesCore : Fact → Type 0
 LeavesCore (radar_met r chan) = Unit {0}
+LeavesCore (ended i) = Unit {0}
+LeavesCore (typed i kind) = Unit {0}
+LeavesCore (set_to i setting) = Unit {0}
 LeavesCore (started i chan power) = Unit {0}
 LeavesCore (stopped i) = Unit {0}
 LeavesCore (powered i power) = Unit {0}
@@ -51,6 +55,12 @@ pub keeps_after : (db : List Domain) (J : Journal) (f : Fact) (core : Core) (int
     → EachMayFollow db (f ∷ J) → KeepsRadios db (f ∷ J) radios → interfaces ≡ interfaces_of (f ∷ J)
     → Keeps db (record core { interfaces = interfaces; radios = radios }) (f ∷ J)
 keeps_after db J (radar_met r chan) core interfaces radios leaves s due kept are =
+    record { due = due; domains = s.domains; clock = s.clock; indoor = s.indoor; hints = s.hints; made = s.made; global = s.global; radios = kept; interfaces = are }
+keeps_after db J (ended i) core interfaces radios leaves s due kept are =
+    record { due = due; domains = s.domains; clock = s.clock; indoor = s.indoor; hints = s.hints; made = s.made; global = s.global; radios = kept; interfaces = are }
+keeps_after db J (typed i kind) core interfaces radios leaves s due kept are =
+    record { due = due; domains = s.domains; clock = s.clock; indoor = s.indoor; hints = s.hints; made = s.made; global = s.global; radios = kept; interfaces = are }
+keeps_after db J (set_to i setting) core interfaces radios leaves s due kept are =
     record { due = due; domains = s.domains; clock = s.clock; indoor = s.indoor; hints = s.hints; made = s.made; global = s.global; radios = kept; interfaces = are }
 keeps_after db J (started i chan power) core interfaces radios leaves s due kept are =
     record { due = due; domains = s.domains; clock = s.clock; indoor = s.indoor; hints = s.hints; made = s.made; global = s.global; radios = kept; interfaces = are }

@@ -1,22 +1,24 @@
 -- The core keeps the journal with one more fact.
-use Rattle.std.proofs.Common.{◌≡◌, ℕ, ◌<◌, ◌≤◌, ◌^◌, ◌||◌, true, List, [], ◌∷◌, ◌++◌, ◌+◌, length, get_or, arith, refl, sym, subst, ap, ◌∙◌, eq-eqb}
+use Rattle.std.proofs.Common.{◌≡◌, ℕ, ◌<◌, ◌==◌, ◌≤◌, ◌^◌, ◌||◌, true, false, List, [], ◌∷◌, ◌++◌, ◌+◌, length, get_or, arith, refl, sym, subst, ap, ◌∙◌, eq-eqb}
 use Rattle.std.proofs.lemmas.List.{get_or_default}
 use Rattle.std.proofs.Math.ListN.{set}
 use Rattle.rule_tables.specs.declared.domain.Domain.{Domain}
 use Rattle.reg_journal.specs.Due.{EachMayFollow}
 use Rattle.chan_flags.specs.Profiles.{Abilities}
-use Rattle.reg_journal.specs.Facts.{Journal, moment_is, radio_added, made}
+use Rattle.reg_journal.specs.Facts.{Fact, Journal, moment_is, radio_added, made}
 use Rattle.reg_journal.specs.Present.{is_used, made_of}
-use Rattle.reg_core.specs.Kept.{Keeps, KeepsPlace, KeepsRadio, KeepsRadios, interfaces_of}
-use Rattle.reg_core.specs.inner.Interfaces.{slot_on}
-use Rattle.reg_core.specs.declared.interface.Interface.{Interface}
+use Rattle.reg_core.specs.Kept.{Keeps}
+use Rattle.core_parts.specs.Kept.{KeepsPlace, KeepsRadio, KeepsRadios, interfaces_of}
+use Rattle.core_parts.specs.Interfaces.{slot_on}
+use Rattle.reg_books.specs.Sparing.{SparesRadio}
+use Rattle.core_parts.specs.declared.interface.Interface.{Interface}
 use Rattle.chan_def.specs.declared.kind.Kind.{Kind}
 use Rattle.reg_core.specs.declared.core_state.Core.{Core}
-use Rattle.reg_core.specs.declared.radio.Radio.{Radio}
-use Rattle.reg_core.specs.declared.radio.RadioPlace.{RadioPlace}
-use Rattle.reg_core.specs.declared.radio.RadioPlace.TheVariants.{Free, There}
-use Rattle.reg_core.proofs.KeptInterfaces.{new_interface, interfaces_of-made}
-use Rattle.reg_core.proofs.Unchanged.{KeepsRadios-at, KeepsRadios-spared}
+use Rattle.core_parts.specs.declared.radio.Radio.{Radio}
+use Rattle.core_parts.specs.declared.radio.RadioPlace.{RadioPlace}
+use Rattle.core_parts.specs.declared.radio.RadioPlace.TheVariants.{Free, There}
+use Rattle.core_parts.proofs.KeptInterfaces.{new_interface, interfaces_of-made}
+use Rattle.core_parts.proofs.Unchanged.{KeepsRadios-at, KeepsRadios-spared}
 
 pub keeps_after_moment : (db : List Domain) (J : Journal) (core : Core) (now : ℕ) (radios : List RadioPlace) → Keeps db core J
     → core.clock ≤ now → now ≤ 10 ^ 15 → KeepsRadios db (moment_is now ∷ J) radios
@@ -70,10 +72,3 @@ keeps_after_making db J core name r kind interfaces s due grown = record {
       ∙ ap (λ n. interfaces_of J ++ new_interface (n + 1) name r (slot_on (interfaces_of J) r) kind ∷ []) s.made
       ∙ sym (interfaces_of-made db J name r kind due.1);
 }
-
--- what is kept of a radio stands in its place
-pub place_kept : (db : List Domain) (J : Journal) (places : List RadioPlace) (r k : ℕ) (place : RadioPlace) → KeepsRadios db J places → length places ≡ 8 → k ≡ r → k < 8
-    → KeepsPlace db J r (get_or places k place)
-place_kept db J places r k place kept eight same below =
-    subst (λ n. KeepsPlace db J n (get_or places k place)) same
-    (subst (KeepsPlace db J k) (sym (get_or_default places k place Free (omega (arith, below, eight)))) (kept k below))

@@ -20,12 +20,12 @@ use Rattle.reg_journal.proofs.Starting.{tells_kind}
 use Rattle.reg_journal.proofs.Granting.{free-before, free-where, free_of_granted}
 use Rattle.std.specs.Option.{option_map}
 use Rattle.std.proofs.lemmas.Option.{none-some}
-use Rattle.reg_core.specs.Kept.{kept, kept_operation}
-use Rattle.reg_core.specs.inner.Contexts.{checked_channel}
+use Rattle.core_parts.specs.Kept.{kept, kept_operation}
+use Rattle.core_parts.specs.Contexts.{checked_channel}
 use Rattle.reg_core.specs.inner.Starting.{HasStart}
 use Rattle.reg_core.specs.Stepping.{is_failure}
-use Rattle.reg_core.specs.declared.interface.Interface.{Interface}
-use Rattle.reg_core.proofs.Listed.{indexed_listed}
+use Rattle.core_parts.specs.declared.interface.Interface.{Interface}
+use Rattle.reg_journal.proofs.Listed.{indexed_listed}
 
 -- ---- starts
 

@@ -13,19 +13,20 @@ use Rattle.reg_journal.specs.Facts.{Journal, started, stopped}
 use Rattle.reg_journal.specs.OnAir.{entry}
 use Rattle.reg_journal.specs.Present.{Iface, abilities_of, no_abilities, operation_of}
 use Rattle.reg_journal.proofs.Granting.{power_of_granted}
-use Rattle.reg_core.specs.DriverRows.{AreDriven, driver_at}
-use Rattle.reg_core.specs.inner.Judging.{IsJudged}
-use Rattle.reg_core.specs.Kept.{Keeps, KeepsRadio}
-use Rattle.reg_core.specs.inner.Changes.{IsInterfaceOf}
+use Rattle.reg_books.specs.DriverRows.{AreDriven, driver_at}
+use Rattle.core_parts.specs.Judging.{IsJudged}
+use Rattle.reg_core.specs.Kept.{Keeps}
+use Rattle.core_parts.specs.Kept.{KeepsRadio}
+use Rattle.core_parts.specs.Changes.{IsInterfaceOf}
 use Rattle.reg_journal.specs.Refusals.{StartCauses}
 use Rattle.reg_core.specs.inner.Starting.{Falls, HasStart, HasStop, HasFreeIface, Starts, Stops}
-use Rattle.reg_core.specs.Told.{DriverFails, HasRoom, OneGoes, DriverTakes}
+use Rattle.reg_books.specs.Told.{DriverFails, HasRoom, OneGoes, DriverTakes}
 use Rattle.reg_core.specs.declared.core_state.Core.{Core}
-use Rattle.reg_core.specs.declared.interface.Interface.{Interface}
-use Rattle.reg_core.specs.declared.radio.Radio.{Radio}
+use Rattle.core_parts.specs.declared.interface.Interface.{Interface}
+use Rattle.core_parts.specs.declared.radio.Radio.{Radio}
 use Rattle.reg_core.proofs.KeptChanges.{interface_of_kept}
-use Rattle.reg_core.proofs.Listed.{named_listed}
-use Rattle.reg_core.proofs.Room.{room_for}
+use Rattle.reg_journal.proofs.Listed.{named_listed}
+use Rattle.reg_books.proofs.Room.{room_for}
 use Rattle.reg_core.proofs.StartReasons.{may_start, start_fails, start_free, stop_free}
 
 -- ---- starts

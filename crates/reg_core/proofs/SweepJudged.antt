@@ -1,6 +1,6 @@
 -- What becomes of one interface, by what is kept of it.
-use Rattle.std.proofs.Common.{◌≡◌, ◌≢◌, ◌⊎◌, ℕ, ◌==◌, ◌<◌, Bool, true, false, List, [], ◌∷◌, length, Option, Some, None, Result, Ok, Err, MatchBool, MatchResult, option_map, refl, sym, ap, subst, ◌∙◌, inl, inr, eq-eqb, ne_eqb}
-use Rattle.std.proofs.lemmas.Bool.{cases_eq, false≢true}
+use Rattle.std.proofs.Common.{◌≡◌, ◌⊎◌, ℕ, ◌<◌, Bool, true, false, List, [], ◌∷◌, length, Option, Some, None, Result, Ok, Err, MatchResult, option_map, refl, sym, ap, subst, ◌∙◌, inl, inr, eq-eqb, ne_eqb}
+use Rattle.std.proofs.lemmas.Bool.{cases_eq}
 use Rattle.std.proofs.lemmas.Option.{none-some, same_Some}
 use Rattle.rule_tables.specs.declared.domain.Domain.{Domain}
 use Rattle.chan_def.specs.Covered.{IsValidDef}
@@ -11,6 +11,7 @@ use Rattle.chan_def.specs.declared.kind.Kind.{Kind}
 use Rattle.reg_journal.specs.declared.refusal.Refusal.TheVariants.{NothingToCheck, RadioLacksContext}
 use Rattle.chan_flags.specs.declared.verdict.ChanRefusal.{ChanRefusal}
 use Rattle.chan_flags.specs.declared.verdict.ChanRefusal.TheVariants.{LacksChannel as Lacking, LacksWidth as Narrower, NoRule as Ruleless, TooNarrow as Tight, NoOfdm as Ofdm, NoIr as Ir, NoOutdoor as Outdoor, AboveLimit}
+use Rattle.chan_flags.specs.declared.verdict.PowerSetting.{PowerSetting}
 use Rattle.chan_flags.specs.declared.verdict.PowerSetting.TheVariants.{Auto}
 use Rattle.chan_flags.specs.declared.verdict.Verdict.TheVariants.{Fits, Refused}
 use Rattle.chan_flags.specs.declared.verdict.Verdict.{Verdict}
@@ -19,29 +20,29 @@ use Rattle.reg_journal.specs.Causes.{◌before◌, IsFree, SomeComes}
 use Rattle.reg_journal.specs.Due.{EachMayFollow}
 use Rattle.reg_journal.specs.Facts.{Journal, started, powered, check_begun, check_dropped, stopped}
 use Rattle.reg_journal.specs.Granted.{IsPermitted}
-use Rattle.reg_journal.specs.Permits.{BarsCheck, EndsCheck, EndsOperation, HasNothingToCheck, IsLengthOf, IsPowerOf, LacksChannel, LacksContext, LacksRadarWidth, LacksWidth, MetRadar, RadioForbids, asked_by, channels_beside, distinct, refusal_of_channel}
+use Rattle.reg_journal.specs.Permits.{BarsCheck, EndsCheck, EndsOperation, HasNothingToCheck, IsLengthOf, IsPowerOf, LacksContext, LacksRadarWidth, MetRadar, RadioForbids, asked_by, channels_beside, distinct, refusal_of_channel}
 use Rattle.reg_journal.specs.Present.{Check, Iface, Operation, abilities_of, check_of, is_indoor, last_check_of, operation_of, operation_with_power}
-use Rattle.reg_journal.specs.Sweep.{MustDrop, RegionChangedInCheck}
+use Rattle.reg_journal.specs.Sweep.{MustDrop}
 use Rattle.reg_journal.specs.declared.refusal.Refusal.{Refusal}
 use Rattle.reg_journal.proofs.Granting.{free-before, free-where, free_of_permitted, power_of_permitted}
 use Rattle.reg_journal.proofs.LastCheck.{check_parts}
 use Rattle.reg_journal.proofs.Verdicts.{verdict_says}
-use Rattle.reg_core.specs.Kept.{KeepsRadio, kept, kept_operation}
-use Rattle.reg_core.specs.inner.Changes.{IsInterfaceOf}
-use Rattle.reg_core.specs.inner.Contexts.{IsOf, checked_channel}
-use Rattle.reg_core.specs.inner.Demands.{AllMeet, AllMeetFor, FailsDemand, HasRadarWidth, HasRules}
-use Rattle.reg_core.specs.inner.Judging.{BarsBeginning, CheckFits, HasVerdict, IsSwept, as_auto, is_lacking}
-use Rattle.reg_core.specs.inner.Repowering.{repowered}
+use Rattle.core_parts.specs.Kept.{KeepsRadio, kept, kept_operation}
+use Rattle.core_parts.specs.Contexts.{IsOf, checked_channel}
+use Rattle.core_parts.specs.Demands.{AllMeet, AllMeetFor, FailsDemand, HasRadarWidth, HasRules}
+use Rattle.core_parts.specs.Judging.{BarsBeginning, CheckFits, HasVerdict, IsSwept, as_auto, is_lacking}
+use Rattle.core_parts.specs.Repowering.{repowered}
 use Rattle.reg_core.specs.inner.Sweeping.{Judges}
-use Rattle.reg_core.specs.declared.change.Change.TheVariants.{Stopped, Powered, Dropped}
-use Rattle.reg_core.specs.declared.interface.Interface.{Interface}
-use Rattle.reg_core.specs.declared.interface.Running.{Running}
-use Rattle.reg_core.specs.declared.radar.Demand.TheVariants.{Clear, Quiet}
-use Rattle.reg_core.specs.declared.radio.Radio.{Radio}
+use Rattle.core_parts.specs.declared.change.Change.TheVariants.{Stopped, Dropped}
+use Rattle.core_parts.specs.declared.interface.Interface.{Interface}
+use Rattle.core_parts.specs.declared.interface.Running.{Running}
+use Rattle.core_parts.specs.declared.radar.Demand.TheVariants.{Clear, Quiet}
+use Rattle.core_parts.specs.declared.radio.Radio.{Radio}
 use Rattle.reg_journal.proofs.Permitting.{free-first, free-next}
-use Rattle.reg_core.proofs.Judged.{has_where, lacks_none, lacks_where, rules_of_fitting}
+use Rattle.core_parts.proofs.Judged.{has_where, lacks_none, lacks_where, rules_of_fitting}
 use Rattle.reg_core.proofs.KeptChanges.{interface_of_kept}
-use Rattle.reg_core.proofs.RadarRefusals.{abilities_kept, free_of_radar, free_of_width}
+use Rattle.core_parts.proofs.RadarRefusals.{abilities_kept, free_of_radar, free_of_width}
+use Rattle.core_parts.proofs.Permitted.{begins}
 
 -- ---- channels are valid
 
@@ -49,37 +50,6 @@ valid_repowered : (was : Option Operation) (power : ℕ) (o : Operation) → ((q
     → IsValidDef o.chan
 valid_repowered None power o valid none = absurd (none-some o none)
 valid_repowered (Some q) power o valid some = subst (λ (p : Operation). IsValidDef p.chan) (same_Some (operation_with_power power q) o some) (valid q refl)
-
-pub operation_valid : (db : List Domain) (J : Journal) (i : ℕ) (o : Operation) → EachMayFollow db J → operation_of J i ≡ Some o → IsValidDef o.chan
-operation_valid db [] i o due is = absurd (none-some o is)
-operation_valid db (started j chan power ∷ J) i o due is = elim (cases_eq i j) [
-  | inl same ↦ subst (λ (p : Operation). IsValidDef p.chan) (same_Some (record { chan = chan; power = power }) o (rw (eq-eqb i j same) at is)) due.0.1
-  | inr other ↦ operation_valid db J i o due.1 (rw (ne_eqb i j other) at is)
-]
-operation_valid db (stopped j ∷ J) i o due is = elim (cases_eq i j) [
-  | inl same ↦ absurd (none-some o (rw (eq-eqb i j same) at is))
-  | inr other ↦ operation_valid db J i o due.1 (rw (ne_eqb i j other) at is)
-]
-operation_valid db (powered j power ∷ J) i o due is = elim (cases_eq i j) [
-  | inl same ↦ valid_repowered (operation_of J i) power o (λ q at. operation_valid db J i q due.1 at) (rw (eq-eqb i j same) at is)
-  | inr other ↦ operation_valid db J i o due.1 (rw (ne_eqb i j other) at is)
-]
-operation_valid db (f ∷ J) i o due is = operation_valid db J i o due.1 is
-
-last_check_valid : (db : List Domain) (J : Journal) (i : ℕ) (k : Check) → EachMayFollow db J → last_check_of J i ≡ Some k → IsValidDef k.chan
-last_check_valid db [] i k due is = absurd (none-some k is)
-last_check_valid db (check_begun j chan length ∷ J) i k due is = elim (cases_eq i j) [
-  | inl same ↦ subst (λ (q : Check). IsValidDef q.chan) (same_Some _ k (rw (eq-eqb i j same) at is)) due.0.2
-  | inr other ↦ last_check_valid db J i k due.1 (rw (ne_eqb i j other) at is)
-]
-last_check_valid db (check_dropped j ∷ J) i k due is = elim (cases_eq i j) [
-  | inl same ↦ absurd (none-some k (rw (eq-eqb i j same) at is))
-  | inr other ↦ last_check_valid db J i k due.1 (rw (ne_eqb i j other) at is)
-]
-last_check_valid db (f ∷ J) i k due is = last_check_valid db J i k due.1 is
-
-pub check_valid : (db : List Domain) (J : Journal) (i : ℕ) (k : Check) → EachMayFollow db J → check_of J i ≡ Some k → IsValidDef k.chan
-check_valid db J i k due is = last_check_valid db J i k due (check_parts J i k is).0
 
 -- ---- operations
 
@@ -109,120 +79,6 @@ operation_stops db J x p radio indoor o e is here ends = rw here (
   interface_of_kept J x p is.there is.interface_is,
   (ap (λ (q : Interface). q.index) is.interface_is, (e, ends)),
 )
-
--- ---- checks
-
-pub verdict_auto : (db : List Domain) (J : Journal) (x : Iface) (p : Interface) (radio : Radio) (indoor : Bool) (c : ChanDef) (v : Verdict) → IsSwept db J x p radio indoor
-    → IsVerdict (applies db J x.radio) (asked radio.chans.profile c p.kind indoor Auto) v → HasVerdict db J (as_auto x) p.kind radio c v
-verdict_auto db J x p radio indoor c v is verdict = record {
-  due = is.due;
-  kind_is = ap (λ (q : Interface). q.kind) is.interface_is;
-  radio_is = is.radio_is;
-  verdict_is =
-      subst (λ (q : Interface). IsVerdict (applies db J x.radio) (asked (abilities_of J x.radio) c q.kind (is_indoor J) Auto) v) is.interface_is
-      (subst (λ b. IsVerdict (applies db J x.radio) (asked (abilities_of J x.radio) c p.kind b Auto) v) is.indoor_is
-      (subst (λ a. IsVerdict (applies db J x.radio) (asked a c p.kind indoor Auto) v) (abilities_kept db J x.radio radio is.radio_is) verdict));
-}
-
-pub ends_check_by : (db : List Domain) (J : Journal) (x : Iface) (c : ChanDef) (r : ChanRefusal) → IsVerdict (applies db J x.radio) (asked_by J (as_auto x) c) (Refused r)
-    → EndsCheck db J x c (refusal_of_channel r)
-ends_check_by db J x c (Lacking s) is = inl (inl (verdict_says db J (as_auto x) c (Refused (Lacking s)) is))
-ends_check_by db J x c (Narrower mhz) is = inl (inr (verdict_says db J (as_auto x) c (Refused (Narrower mhz)) is))
-ends_check_by db J x c (Ruleless s) is = let says = verdict_says db J (as_auto x) c (Refused (Ruleless s)) is in inr (lacks_none db J (as_auto x) c says.0, inl says.1)
-ends_check_by db J x c (Tight s) is = let says = verdict_says db J (as_auto x) c (Refused (Tight s)) is in inr (lacks_none db J (as_auto x) c says.0, inl says.1)
-ends_check_by db J x c (Ofdm s) is = let says = verdict_says db J (as_auto x) c (Refused (Ofdm s)) is in inr (lacks_none db J (as_auto x) c says.0, inl says.1)
-ends_check_by db J x c (Ir s) is = let says = verdict_says db J (as_auto x) c (Refused (Ir s)) is in inr (lacks_none db J (as_auto x) c says.0, inl says.1)
-ends_check_by db J x c (Outdoor s) is = let says = verdict_says db J (as_auto x) c (Refused (Outdoor s)) is in inr (lacks_none db J (as_auto x) c says.0, inl says.1)
-ends_check_by db J x c (AboveLimit limit) is = absurd is.3
-
--- what radar demands of what fits
-pub rules_of_check : (db : List Domain) (J : Journal) (x : Iface) (kind : Kind) (radio : Radio) (c : ChanDef) (power ms : ℕ) (v : Verdict) → HasVerdict db J (as_auto x) kind radio c v
-    → IsVerdict (applies db J x.radio) (asked_by J (as_auto x) c) (Fits power ms) → HasRules db J x.radio radio c
-rules_of_check db J x kind radio c power ms v is fits = rules_of_fitting db J (as_auto x) radio c power ms is.due is.radio_is fits
-
-pub ends_check_radar : (db : List Domain) (J : Journal) (x : Iface) (c : ChanDef) (power ms : ℕ) (e : Refusal) → IsVerdict (applies db J x.radio) (asked_by J (as_auto x) c) (Fits power ms)
-    → (LacksRadarWidth db J x c before MetRadar db J x c) e → EndsCheck db J x c e
-ends_check_radar db J x c power ms e fits radar =
-    let says = verdict_says db J (as_auto x) c (Fits power ms) fits in
-    inr (lacks_none db J (as_auto x) c says.0, inr (says.1, radar))
-
-pub check_fits : (db : List Domain) (J : Journal) (x : Iface) (radio : Radio) (c : ChanDef) (power ms : ℕ) → HasRules db J x.radio radio c
-    → IsVerdict (applies db J x.radio) (asked_by J (as_auto x) c) (Fits power ms) → HasRadarWidth db J x c × AllMeetFor db J x Quiet c → CheckFits db J x radio c ms
-check_fits db J x radio c power ms rules fits (wide, quiet) =
-    let says = verdict_says db J (as_auto x) c (Fits power ms) fits in
-    record {
-      free = free-before _ _ (lacks_none db J (as_auto x) c says.0) (free-before _ _ says.1 (free-before _ _ (free_of_width db J x c wide) (free_of_radar db J x c quiet)));
-      length_is = record { rules = fits.length_is.rules; greatest = fits.length_is.greatest };
-      rules = rules;
-      quiet = quiet;
-    }
-
--- ---- a check that begins
-
-pub nothing_to_check : (db : List Domain) (J : Journal) (x : Iface) (c : ChanDef) → AllMeet db J x.radio Clear c → HasNothingToCheck db J x c
-nothing_to_check db J x c clear s covered bound = let is = clear s covered bound in (is.end, is.stands)
-
-pub something_to_check : (db : List Domain) (J : Journal) (x : Iface) (c : ChanDef) (s : ℕ) → AllMeet db J x.radio Quiet c → BarsFirst (FailsDemand db J x.radio Clear) c s
-    → HasNothingToCheck db J x c → ⊥
-something_to_check db J x c s quiet first nothing =
-    let failing = first.here in
-    let stands = nothing s first.covered failing.0 in
-    failing.1 (record { quiet = quiet s first.covered failing.0; end = stands.0; stands = stands.1 })
-
-lacks_where_auto : (db : List Domain) (J : Journal) (x : Iface) (c : ChanDef) (v : Verdict) → IsVerdict (applies db J x.radio) (asked_by J (as_auto x) c) v → is_lacking v ≡ true
-    → SomeComes (RadioForbids db J x c)
-lacks_where_auto db J x c v is lacking = lacks_where db J (as_auto x) c v is lacking
-
-pub begins_by_contexts : (db : List Domain) (J : Journal) (x : Iface) (radio : Radio) (c : ChanDef) (v : Verdict) (contexts : ℕ) → KeepsRadio db J x.radio radio
-    → IsVerdict (applies db J x.radio) (asked_by J (as_auto x) c) v → is_lacking v ≡ false → contexts ≡ radio.chans.profile.contexts
-    → radio.chans.profile.contexts < length (distinct (c ∷ channels_beside J x)) → BarsBeginning db J x c (RadioLacksContext contexts)
-begins_by_contexts db J x radio c v contexts keeps is has same more =
-    let free = has_where db J (as_auto x) c v is has in
-    let abilities = ap (λ (p : Abilities). p.contexts) (abilities_kept db J x.radio radio keeps) in
-    inl (inr (free, inl (subst (λ n. n < length (distinct (c ∷ channels_beside J x))) abilities more, ap RadioLacksContext (same ∙ abilities))))
-
-check_with_contexts : (db : List Domain) (J : Journal) (x : Iface) (c : ChanDef) (e : Refusal) → IsFree (LacksContext J x c) → EndsCheck db J x c e → BarsCheck db J x c e
-check_with_contexts db J x c e free (inl radio) = inl radio
-check_with_contexts db J x c e free (inr (has, rest)) = inr (has, inr (free, rest))
-
-check_lacking : (db : List Domain) (J : Journal) (x : Iface) (c : ChanDef) (e : Refusal) → SomeComes (RadioForbids db J x c) → EndsCheck db J x c e → BarsCheck db J x c e
-check_lacking db J x c e lacks (inl radio) = inl radio
-check_lacking db J x c e lacks (inr (has, rest)) = absurd (has lacks.0 lacks.1)
-
-free_of_contexts : (db : List Domain) (J : Journal) (x : Iface) (radio : Radio) (c : ChanDef) → KeepsRadio db J x.radio radio
-    → (radio.chans.profile.contexts < length (distinct (c ∷ channels_beside J x)) → ⊥) → IsFree (LacksContext J x c)
-free_of_contexts db J x radio c keeps few =
-    free-where _ _ (λ more. few (subst (λ (p : Abilities). p.contexts < length (distinct (c ∷ channels_beside J x))) (sym (abilities_kept db J x.radio radio keeps)) more))
-
--- where no context is lacking, or the radio lacks more
-abbrev pub HasContexts : List Domain → Journal → Iface → ChanDef → Type 0
-HasContexts db J x c = IsFree (LacksContext J x c) ⊎ SomeComes (RadioForbids db J x c)
-
-pub within_contexts : (db : List Domain) (J : Journal) (x : Iface) (radio : Radio) (c : ChanDef) → KeepsRadio db J x.radio radio
-    → (radio.chans.profile.contexts < length (distinct (c ∷ channels_beside J x)) → ⊥) → HasContexts db J x c
-within_contexts db J x radio c keeps few = inl (free_of_contexts db J x radio c keeps few)
-
-pub lacks_more : (db : List Domain) (J : Journal) (x : Iface) (c : ChanDef) (v : Verdict) → IsVerdict (applies db J x.radio) (asked_by J (as_auto x) c) v → is_lacking v ≡ true → HasContexts db J x c
-lacks_more db J x c v is lacking = inr (lacks_where_auto db J x c v is lacking)
-
-bars_of_ends : (db : List Domain) (J : Journal) (x : Iface) (c : ChanDef) (e : Refusal) → HasContexts db J x c → EndsCheck db J x c e → BarsCheck db J x c e
-bars_of_ends db J x c e (inl free) ends = check_with_contexts db J x c e free ends
-bars_of_ends db J x c e (inr lacks) ends = check_lacking db J x c e lacks ends
-
-pub begins_where_ends : (db : List Domain) (J : Journal) (x : Iface) (c : ChanDef) (e : Refusal) → HasContexts db J x c → EndsCheck db J x c e → BarsBeginning db J x c e
-begins_where_ends db J x c e contexts ends = inl (bars_of_ends db J x c e contexts ends)
-
-free_of_bars : (db : List Domain) (J : Journal) (x : Iface) (c : ChanDef) → HasContexts db J x c → IsFree (EndsCheck db J x c) → IsFree (BarsCheck db J x c)
-free_of_bars db J x c (inl contexts) free =
-    free-before _ _ (free-first (RadioForbids db J x c) _ free) (free-before _ _ contexts (free-next (RadioForbids db J x c) _ free))
-free_of_bars db J x c (inr (e, lacks)) free = absurd (free e (inl lacks))
-
-pub begins : (db : List Domain) (J : Journal) (x : Iface) (radio : Radio) (c : ChanDef) (length : ℕ) (r : Result ℕ Refusal) → HasContexts db J x c → CheckFits db J x radio c length
-    → MatchResult r (λ ms. (HasNothingToCheck db J x c → ⊥) × (ms ≡ length)) (λ e. HasNothingToCheck db J x c × (e ≡ NothingToCheck))
-    → MatchResult r (λ ms. IsFree (BarsBeginning db J x c) × IsLengthOf db J x c ms) (BarsBeginning db J x c)
-begins db J x radio c length (Ok ms) contexts fits (some, same) =
-    (free-before _ _ (free_of_bars db J x c contexts fits.free) (free-where _ _ some), subst (IsLengthOf db J x c) (sym same) fits.length_is)
-begins db J x radio c length (Err e) contexts fits (nothing, same) = inr (free_of_bars db J x c contexts fits.free, (nothing, same))
 
 -- ---- what becomes of them
 

@@ -1,32 +1,31 @@
 -- Lists of what comes to interfaces, each at most once.
-use Rattle.std.proofs.Common.{◌≡◌, ℕ, ◌+◌, ◌<◌, ◌≤◌, ◌==◌, Bool, true, false, List, [], ◌∷◌, ◌++◌, length, take, filter, map, get_or, slice_get, Contains, Option, Some, None, MatchBool, append_assoc, append-nil, arith, refl, sym, ap, subst, ◌∙◌, inl, inr}
+use Rattle.std.proofs.Common.{◌≡◌, ℕ, ◌+◌, ◌<◌, ◌≤◌, Bool, true, false, List, [], ◌∷◌, ◌++◌, length, take, filter, get_or, slice_get, Option, Some, None, MatchBool, MatchOption, append_assoc, append-nil, arith, refl, sym, ap, subst, ◌∙◌, inl, inr, ne_eqb}
 use Rattle.std.specs.List.{cons_option, filter_map}
-use Rattle.std.specs.Option.{option_map, option_to_list}
-use Rattle.std.proofs.lemmas.Bool.{cases_Bool}
+use Rattle.std.specs.Option.{option_to_list}
 use Rattle.std.proofs.lemmas.List.{length-append, take_more}
 use Rattle.std.proofs.lemmas.List.Elements.{filter_map-append}
-use Rattle.std.proofs.lemmas.Option.{slice_get_cases, slice_get_within}
-use Rattle.freq_range.proofs.Members.{Contains-head, Contains-later}
+use Rattle.std.proofs.lemmas.Option.{none-some, slice_get_cases}
 use Rattle.rule_tables.specs.declared.domain.Domain.{Domain}
 use Rattle.reg_journal.specs.Due.{EachMayFollow}
 use Rattle.reg_journal.specs.Effects.{effect_of, effects_of}
-use Rattle.reg_journal.specs.Facts.{Fact, Journal, after}
-use Rattle.reg_journal.specs.Present.{Iface, ifaces_of, indexed}
-use Rattle.reg_journal.specs.Sweep.{AreSwept}
+use Rattle.reg_journal.specs.Facts.{Fact, Journal, after, ended}
+use Rattle.reg_journal.specs.Present.{Check, Iface, Operation, check_of, ifaces_of, indexed, is_apart, operation_of}
+use Rattle.reg_journal.specs.Sweep.{AreSwept, Becomes, CheckBecomes, OperationBecomes}
 use Rattle.reg_journal.specs.declared.effects.Effect.{Effect}
 use Rattle.reg_journal.specs.declared.effects.Effect.TheVariants.{Stopped as EffectStopped, Dropped as EffectDropped, Power}
 use Rattle.reg_journal.proofs.Indexes.{apart-filter, ifaces_apart}
+use Rattle.reg_journal.proofs.Lasting.{Contains-kept}
 use Rattle.reg_journal.proofs.Swept.{swept_due}
 use Rattle.radio_drv.specs.Seen.{Seen}
 use Rattle.reg_core.specs.Kept.{Keeps}
 use Rattle.reg_core.specs.declared.core_state.Core.{Core}
-use Rattle.reg_core.specs.inner.Changes.{AreEachTold, CanAllCome, IsInterfaceOf, effect_in, fact_of, facts_of, interface_in}
+use Rattle.core_parts.specs.Changes.{AreEachTold, CanAllCome, IsInterfaceOf, effect_in, fact_of, facts_of, interface_in}
 use Rattle.reg_core.specs.inner.Sweeping.{AreEach, IsSweepOf, Judges, is_wanted, wanted}
-use Rattle.reg_core.specs.declared.change.Change.{Change}
-use Rattle.reg_core.specs.declared.change.Change.TheVariants.{Stopped, Powered, Dropped}
-use Rattle.reg_core.specs.declared.interface.Interface.{Interface}
-use Rattle.reg_core.proofs.Listed.{Contains-filter, indexed_listed}
-use Rattle.reg_core.proofs.Taken.{take_got}
+use Rattle.core_parts.specs.declared.change.Change.{Change}
+use Rattle.core_parts.specs.declared.change.Change.TheVariants.{Stopped, Powered, Dropped, Ended}
+use Rattle.core_parts.specs.declared.interface.Interface.{Interface}
+use Rattle.reg_journal.proofs.Listed.{Contains-filter, indexed_listed}
+use Rattle.core_parts.proofs.Taken.{take_got}
 
 -- ---- over lists
 
@@ -71,24 +70,62 @@ swept_of db J [] cs none = ap facts_of none
 swept_of db J (x ∷ xs) cs (None, rest, is, each, are) = (None, facts_of rest, is, swept_of db J xs rest each, ap facts_of are)
 swept_of db J (x ∷ xs) cs (Some c, rest, is, each, are) = (Some (fact_of c), facts_of rest, is.1, swept_of db J xs rest each, ap facts_of are)
 
--- each comes to an interface that is there
+-- the change leaves the interface of this index there
+abbrev pub SparesIndex : Change → ℕ → Type 0
+SparesIndex (Ended p) i = i ≡ p.index → ⊥
+SparesIndex c i = Unit {0}
+
+-- and those to which the other changes come
+abbrev pub SparesEach : Change → List Change → Type 0
+SparesEach c [] = Unit {0}
+SparesEach c (d ∷ cs) = SparesIndex c (interface_in d).index × SparesEach c cs
+
+-- each comes to an interface that is there, and that none before it ends
 abbrev pub AreHoused : Journal → List Change → Type 0
 AreHoused J [] = Unit {0}
-AreHoused J (c ∷ cs) = ((x : Iface) × IsInterfaceOf J x (interface_in c)) × AreHoused J cs
+AreHoused J (c ∷ cs) = ((x : Iface) × IsInterfaceOf J x (interface_in c)) × SparesEach c cs × AreHoused J cs
+
+-- one that ends no interface
+pub spares_each : (c : Change) → ((i : ℕ) → SparesIndex c i) → (cs : List Change) → SparesEach c cs
+spares_each c spares [] = tt
+spares_each c spares (d ∷ cs) = (spares (interface_in d).index, spares_each c spares cs)
+
+-- a sweep ends none
+swept_spares : (db : List Domain) (J : Journal) (x : Iface) (c : Change) → Becomes db J x (Some (fact_of c)) → (i : ℕ) → SparesIndex c i
+swept_spares db J x (Stopped p) becomes i = tt
+swept_spares db J x (Powered p power) becomes i = tt
+swept_spares db J x (Dropped p) becomes i = tt
+swept_spares db J x (Ended p) becomes i = by (operation_of J x.index) (check_of J x.index) becomes
+  where
+    by : (o : Option Operation) (k : Option Check)
+        → MatchOption o (MatchOption k (Some (ended p.index) ≡ None) (λ k. CheckBecomes db J x k (Some (ended p.index)))) (λ o. OperationBecomes db J x o (Some (ended p.index)))
+        → SparesIndex (Ended p) i
+    by None None none = absurd (none-some (ended p.index) (sym none))
+    by None (Some k) never = absurd never
+    by (Some o) k never = absurd never
 
 pub housed_of : (db : List Domain) (J : Journal) (xs : List Iface) (cs : List Change) → AreEach (Judges db J) xs cs → AreHoused J cs
 housed_of db J [] cs none = subst (AreHoused J) (sym none) tt
 housed_of db J (x ∷ xs) cs (None, rest, is, each, are) = subst (AreHoused J) (sym are) (housed_of db J xs rest each)
-housed_of db J (x ∷ xs) cs (Some c, rest, is, each, are) = subst (AreHoused J) (sym are) ((x, is.0), housed_of db J xs rest each)
+housed_of db J (x ∷ xs) cs (Some c, rest, is, each, are) =
+    subst (AreHoused J) (sym are) ((x, is.0), spares_each c (swept_spares db J x c is.1) rest, housed_of db J xs rest each)
 
-interface_stays : (J : Journal) (c : Change) (x : Iface) (p : Interface) → IsInterfaceOf J x p → IsInterfaceOf (fact_of c ∷ J) x p
-interface_stays J (Stopped q) x p is = record { there = is.there; index = is.index; name = is.name; radio = is.radio; slot = is.slot; kind = is.kind }
-interface_stays J (Powered q power) x p is = record { there = is.there; index = is.index; name = is.name; radio = is.radio; slot = is.slot; kind = is.kind }
-interface_stays J (Dropped q) x p is = record { there = is.there; index = is.index; name = is.name; radio = is.radio; slot = is.slot; kind = is.kind }
+interface_stays : (J : Journal) (c : Change) (x : Iface) (p : Interface) → SparesIndex c p.index → IsInterfaceOf J x p → IsInterfaceOf (fact_of c ∷ J) x p
+interface_stays J (Stopped q) x p spares is = record { there = is.there; index = is.index; name = is.name; radio = is.radio; slot = is.slot; kind = is.kind }
+interface_stays J (Powered q power) x p spares is = record { there = is.there; index = is.index; name = is.name; radio = is.radio; slot = is.slot; kind = is.kind }
+interface_stays J (Dropped q) x p spares is = record { there = is.there; index = is.index; name = is.name; radio = is.radio; slot = is.slot; kind = is.kind }
+interface_stays J (Ended q) x p spares is = record {
+  there = Contains-kept (is_apart q.index) (ifaces_of J) x is.there (rw (ne_eqb x.index q.index (λ same. spares (is.index ∙ same))) refl);
+  index = is.index;
+  name = is.name;
+  radio = is.radio;
+  slot = is.slot;
+  kind = is.kind;
+}
 
-housed_stays : (J : Journal) (c : Change) (cs : List Change) → AreHoused J cs → AreHoused (fact_of c ∷ J) cs
-housed_stays J c [] housed = tt
-housed_stays J c (d ∷ cs) ((x, is), housed) = ((x, interface_stays J c x (interface_in d) is), housed_stays J c cs housed)
+housed_stays : (J : Journal) (c : Change) (cs : List Change) → SparesEach c cs → AreHoused J cs → AreHoused (fact_of c ∷ J) cs
+housed_stays J c [] spares housed = tt
+housed_stays J c (d ∷ cs) (spares, later) ((x, is), apart, housed) = ((x, interface_stays J c x (interface_in d) spares is), apart, housed_stays J c cs later housed)
 
 pub due_before : (db : List Domain) (facts : List Fact) (J : Journal) → EachMayFollow db (after facts J) → EachMayFollow db J
 due_before db [] J due = due
@@ -96,8 +133,8 @@ due_before db (f ∷ facts) J due = (due_before db facts (f ∷ J) due).1
 
 pub can_come : (db : List Domain) (J : Journal) (cs : List Change) → EachMayFollow db (after (facts_of cs) J) → AreHoused J cs → CanAllCome db J cs
 can_come db J [] due housed = tt
-can_come db J (c ∷ cs) due (first, housed) =
-    ((due_before db (facts_of cs) (fact_of c ∷ J) due).0, first, can_come db (fact_of c ∷ J) cs due (housed_stays J c cs housed))
+can_come db J (c ∷ cs) due (first, spares, housed) =
+    ((due_before db (facts_of cs) (fact_of c ∷ J) due).0, first, can_come db (fact_of c ∷ J) cs due (housed_stays J c cs spares housed))
 
 -- ---- their effects
 
@@ -105,12 +142,13 @@ effect_alike : (J : Journal) (c : Change) (x : Iface) → indexed J (interface_i
 effect_alike J (Stopped p) x is name = rw is (ap (λ n. Some (EffectStopped n)) name)
 effect_alike J (Powered p power) x is name = rw is (ap (λ n. Some (Power n power)) name)
 effect_alike J (Dropped p) x is name = rw is (ap (λ n. Some (EffectDropped n)) name)
+effect_alike J (Ended p) x is name = refl
 
 -- told by the interfaces of a journal that has the same ones
 pub effects_alike : (db : List Domain) (J K : Journal) (cs : List Change) → EachMayFollow db K → ((i : ℕ) → indexed J i ≡ indexed K i) → AreHoused K cs
     → filter_map effect_in cs ≡ effects_of J (facts_of cs)
 effects_alike db J K [] due same housed = refl
-effects_alike db J K (c ∷ cs) due same ((x, is), housed) =
+effects_alike db J K (c ∷ cs) due same ((x, is), spares, housed) =
     let found : indexed J (interface_in c).index ≡ Some x = same (interface_in c).index ∙ ap (indexed K) is.index ∙ indexed_listed db K x due is.there in
     ap (λ o. cons_option o (filter_map effect_in cs)) (effect_alike J c x found is.name)
     ∙ ap (λ es. cons_option (effect_of J (fact_of c)) es) (effects_alike db J K cs due same housed)
@@ -146,23 +184,3 @@ swept_whole db J only cs taken told old new row row' effects s each is_taken is_
       told = subst (λ ds. AreEachTold ds row row') is_taken tells;
       effects_are = are ∙ ap (filter_map effect_in) is_told;
     }
-
--- ---- effects that are gathered
-
-option_short : (o : Option Effect) → length (option_to_list o) ≤ 1
-option_short None = omega arith
-option_short (Some e) = omega arith
-
-option_alone : (o : Option Effect) → cons_option o [] ≡ option_to_list o
-option_alone None = refl
-option_alone (Some e) = refl
-
-pub effects_more : (changes : List Change) (i : ℕ) (c : Change) (effects new : List Effect) → i < length changes → c ≡ get_or changes i c → effects ≡ filter_map effect_in (take i changes)
-    → length effects ≤ i → new ≡ effects ++ option_to_list (effect_in c) → (length new ≤ i + 1) × (new ≡ filter_map effect_in (take (i + 1) changes))
-effects_more changes i c effects new within at are few more =
-    let len = ap (λ (es : List Effect). length es) more ∙ length-append effects (option_to_list (effect_in c)) in
-    let short = option_short (effect_in c) in (
-      omega (arith, len, short, few),
-      more ∙ ap (λ es. es ++ option_to_list (effect_in c)) are ∙ ap (λ es. filter_map effect_in (take i changes) ++ es) (sym (option_alone (effect_in c)))
-          ∙ sym (filter_map-append effect_in (take i changes) (c ∷ [])) ∙ ap (filter_map effect_in) (ap (λ d. take i changes ++ d ∷ []) at ∙ sym (take_more changes i c within)),
-    )

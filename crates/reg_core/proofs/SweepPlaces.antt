@@ -1,5 +1,5 @@
 -- The interfaces that are kept, place by place, and what is known of each in a sweep.
-use Rattle.std.proofs.Common.{◌≡◌, ℕ, ◌<◌, ◌≤◌, ◌+◌, ◌==◌, Bool, true, false, List, [], ◌∷◌, ◌++◌, length, take, map, get_or, slice_get, Contains, Option, Some, None, MatchBool, is_some, arith, refl, sym, ap, subst, ◌∙◌, inl, inr}
+use Rattle.std.proofs.Common.{◌≡◌, ℕ, ◌<◌, ◌≤◌, ◌+◌, Bool, false, List, ◌++◌, length, take, get_or, slice_get, Contains, Option, Some, None, MatchBool, is_some, arith, sym, ap, subst, ◌∙◌, inl, inr}
 use Rattle.std.specs.Option.{option_to_list}
 use Rattle.std.proofs.lemmas.Bool.{false≢true}
 use Rattle.std.proofs.lemmas.List.{get_or-map, length-append, length-map, take_all}
@@ -9,16 +9,17 @@ use Rattle.reg_journal.specs.Facts.{Journal}
 use Rattle.reg_journal.specs.Present.{Check, Iface, check_of, ifaces_of, profile_of}
 use Rattle.reg_journal.specs.Sweep.{RegionChangedInCheck}
 use Rattle.reg_journal.proofs.Few.{few_ifaces}
-use Rattle.reg_core.specs.Kept.{Keeps, KeepsRadio, interfaces_of, kept}
-use Rattle.reg_core.specs.inner.Judging.{IsSwept}
+use Rattle.reg_core.specs.Kept.{Keeps}
+use Rattle.core_parts.specs.Kept.{KeepsRadio, interfaces_of, kept}
+use Rattle.core_parts.specs.Judging.{IsSwept}
 use Rattle.reg_core.specs.inner.Sweeping.{AreEach, AreMoved, Judges, is_wanted, wanted}
-use Rattle.reg_core.specs.declared.change.Change.{Change}
+use Rattle.core_parts.specs.declared.change.Change.{Change}
 use Rattle.reg_core.specs.declared.core_state.Core.{Core}
-use Rattle.reg_core.specs.declared.interface.Interface.{Interface}
-use Rattle.reg_core.specs.declared.radio.Radio.{Radio}
-use Rattle.reg_core.proofs.Interfaces.{home_listed}
-use Rattle.reg_core.proofs.Operating.{home_there}
-use Rattle.reg_core.proofs.SweepLists.{each-filter, each-more, few_each}
+use Rattle.core_parts.specs.declared.interface.Interface.{Interface}
+use Rattle.core_parts.specs.declared.radio.Radio.{Radio}
+use Rattle.reg_journal.proofs.Radios.{home_listed}
+use Rattle.reg_journal.proofs.Operating.{home_there}
+use Rattle.reg_core.proofs.SweepLists.{each-filter, each-more}
 
 -- the interface at a place
 pub record IsAtPlace (J : Journal) (k : ℕ) (p : Interface) : Type 0 where
@@ -27,19 +28,22 @@ pub record IsAtPlace (J : Journal) (k : ℕ) (p : Interface) : Type 0 where
   pub there : Contains (ifaces_of J) iface
   pub is : p ≡ kept J iface
 
-pub at_place : (db : List Domain) (J : Journal) (core : Core) (k : ℕ) (p : Interface) → Keeps db core J → k < length core.interfaces → p ≡ get_or core.interfaces k p → IsAtPlace J k p
-at_place db J core k p s below at = elim (slice_get_cases (ifaces_of J) k).1 [
+pub at_place_in : (J : Journal) (k : ℕ) (p : Interface) (interfaces : List Interface) → interfaces ≡ interfaces_of J → k < length interfaces → p ≡ get_or interfaces k p → IsAtPlace J k p
+at_place_in J k p interfaces are below at = elim (slice_get_cases (ifaces_of J) k).1 [
   | inl there ↦ record {
     iface = there.0;
     here = there.2;
     there = (k, there.1, there.3);
-    is = at ∙ ap (λ ps. get_or ps k p) s.interfaces ∙ get_or-map (kept J) (ifaces_of J) k there.0 p there.1 ∙ ap (kept J) there.3;
+    is = at ∙ ap (λ ps. get_or ps k p) are ∙ get_or-map (kept J) (ifaces_of J) k there.0 p there.1 ∙ ap (kept J) there.3;
   }
   | inr past ↦
       let end = past.0 in
-      let len = ap (λ (ps : List Interface). length ps) s.interfaces ∙ length-map (ifaces_of J) (kept J) in
+      let len = ap (λ (ps : List Interface). length ps) are ∙ length-map (ifaces_of J) (kept J) in
       absurd (omega (arith, end, below, len))
 ]
+
+pub at_place : (db : List Domain) (J : Journal) (core : Core) (k : ℕ) (p : Interface) → Keeps db core J → k < length core.interfaces → p ≡ get_or core.interfaces k p → IsAtPlace J k p
+at_place db J core k p s below at = at_place_in J k p core.interfaces s.interfaces below at
 
 -- it is the one that the journal lists there
 pub one_at_place : (J : Journal) (k : ℕ) (x y : Iface) → slice_get (ifaces_of J) k ≡ Some x → slice_get (ifaces_of J) k ≡ Some y → x ≡ y
@@ -98,7 +102,7 @@ judged_all db J core only k cs s end each =
     each-filter (is_wanted only) (Judges db J) (ifaces_of J) cs
     (subst (λ xs. AreEach (JudgesWanted db J only) xs cs) (take_all k (ifaces_of J) (omega (arith, len, end))) each)
 
-option_short : (o : Option Change) → length (option_to_list o) ≤ 1
+pub option_short : (o : Option Change) → length (option_to_list o) ≤ 1
 option_short None = omega arith
 option_short (Some c) = omega arith
 

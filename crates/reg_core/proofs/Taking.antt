@@ -8,8 +8,8 @@ use Rattle.reg_journal.specs.Due.{MayFollow}
 use Rattle.reg_journal.specs.Facts.{Journal, after}
 use Rattle.reg_journal.specs.Present.{Iface}
 use Rattle.reg_core.specs.Kept.{Keeps}
-use Rattle.reg_core.specs.inner.Changes.{AreEachTold, CanAllCome, IsInterfaceOf, IsTold, fact_of, facts_of, interface_in}
-use Rattle.reg_core.specs.declared.change.Change.{Change}
+use Rattle.core_parts.specs.Changes.{AreEachTold, CanAllCome, IsInterfaceOf, IsTold, fact_of, facts_of, interface_in}
+use Rattle.core_parts.specs.declared.change.Change.{Change}
 use Rattle.reg_core.specs.declared.core_state.Core.{Core}
 
 -- the core keeps some journal, from which the changes from place i on lead where all lead

@@ -1,5 +1,5 @@
 -- What a step of the core is.
-use Rattle.std.specs.Prelude.{◌≡◌, ℕ, ◌⊎◌, Bool, true, false, List, [], Option, IsSomeAnd, IsTrue}
+use Rattle.std.specs.Prelude.{◌≡◌, ℕ, Bool, true, false, List, [], Option, Result, Ok, Err, IsSomeAnd, IsTrue}
 use Rattle.std.specs.Option.{option_map}
 use Rattle.rule_tables.specs.declared.domain.Domain.{Domain}
 use Rattle.radio_drv.specs.Seen.{Seen}
@@ -8,14 +8,15 @@ use Rattle.reg_journal.specs.Granted.{IsGranted}
 use Rattle.reg_journal.specs.Present.{named}
 use Rattle.reg_journal.specs.Replies.{Steps}
 use Rattle.reg_journal.specs.declared.refusal.Refusal.{Refusal}
-use Rattle.reg_journal.specs.declared.refusal.Refusal.TheVariants.{DriverFailed, NotBuilt}
+use Rattle.reg_journal.specs.declared.refusal.Refusal.TheVariants.{DriverFailed}
 use Rattle.reg_journal.specs.declared.reply.Answer.{Answer}
-use Rattle.reg_journal.specs.declared.reply.Answer.TheVariants.{Refused, Started}
+use Rattle.reg_journal.specs.declared.effects.Effect.{Effect}
+use Rattle.reg_journal.specs.declared.reply.Answer.TheVariants.{Refused, Started, Checking, Ok as Done}
 use Rattle.reg_journal.specs.declared.reply.Reply.{Reply}
 use Rattle.reg_journal.specs.declared.reply.Reply.TheVariants.{Plain}
 use Rattle.reg_journal.specs.declared.request.Request.{Request}
-use Rattle.reg_journal.specs.declared.request.Request.TheVariants.{At, RadioAdd, Element as HeardElement, UserHint, Radar, Indoor, IfaceAdd, Start, Stop, Check}
-use Rattle.reg_core.specs.DriverRows.{AllGoOn, AreDriven, Follows, HasFailed, driver_at}
+use Rattle.reg_journal.specs.declared.request.Request.TheVariants.{Start}
+use Rattle.reg_books.specs.DriverRows.{AllGoOn, AreDriven, Follows, HasFailed, driver_at}
 use Rattle.reg_core.specs.Kept.{StandsFor}
 use Rattle.reg_core.specs.declared.core_state.Core.{Core}
 
@@ -64,32 +65,29 @@ pub record OneStep (db : List Domain) (J : Journal) (q : Request) (old new : Cor
   pub refused : IsTrue (is_refusal reply) → ChangesNothing old new row row' (is_failed reply)
   pub granted : IsStartGranted db J q reply
 
--- ---- what is built
+-- ---- the replies that the answers of the deciding calls stand for
 
--- The request is one of those that are answered by now.
-abbrev pub IsBuilt : List Domain → Journal → Request → Type 0
-IsBuilt db J (At moment) = Unit {0}
-IsBuilt db J (RadioAdd r profile) = Unit {0}
-IsBuilt db J (HeardElement r body) = Unit {0}
-IsBuilt db J (UserHint a) = Unit {0}
-IsBuilt db J (Radar r c) = Unit {0}
-IsBuilt db J (Indoor on) = Unit {0}
-IsBuilt db J (IfaceAdd r name kind) = Unit {0}
-IsBuilt db J (Start name kind c) = Unit {0}
-IsBuilt db J (Stop name kind) = Unit {0}
-IsBuilt db J (Check name c) = Unit {0}
-IsBuilt db J q = ⊥
+-- the request is done, or refused
+abbrev pub done_reply : {A : Type 0} → Result A Refusal → Reply
+done_reply (Ok done) = Plain Done []
+done_reply (Err e) = Plain (Refused e) []
 
--- the request isn't answered yet: nothing changes
-pub record IsPutOff (old new : Core) (row row' : List (Option Seen)) (reply : Reply) : Type 0 where
-  pub reply_is : reply ≡ Plain (Refused NotBuilt) []
-  pub core : new ≡ old
-  pub drivers : row' ≡ row
+-- it is done, and had these effects
+abbrev pub swept_reply : Result (List Effect) Refusal → Reply
+swept_reply (Ok effects) = Plain Done effects
+swept_reply (Err e) = Plain (Refused e) []
 
--- what a step is over each journal that the core stands for
-abbrev pub IsStep : List Domain → Journal → Request → Core → Core → List (Option Seen) → List (Option Seen) → Reply → Type 0
-IsStep db J q old new row row' reply =
-    (IsBuilt db J q × OneStep db J q old new row row' reply) ⊎ ((IsBuilt db J q → ⊥) × IsPutOff old new row row' reply)
+-- an operation started with this power, in mBm
+abbrev pub started_reply : Result ℕ Refusal → Reply
+started_reply (Ok power) = Plain (Started power) []
+started_reply (Err e) = Plain (Refused e) []
+
+-- a check began that takes so many ms
+abbrev pub checking_reply : Result ℕ Refusal → Reply
+checking_reply (Ok length) = Plain (Checking length) []
+checking_reply (Err e) = Plain (Refused e) []
+
+-- ---- between steps
 
 -- the core stands for a journal whose running operations are on air
 pub record IsReady (core : Core) (row : List (Option Seen)) : Type 0 where

@@ -9,20 +9,17 @@ ghost use Rattle.reg_journal.specs.Present.{Iface};
 ghost use Rattle.reg_journal.specs.Refusals.{CheckCauses};
 ghost use Rattle.reg_core.specs.Kept.{Keeps, StandsFor};
 ghost use Rattle.reg_core.specs.Stepping.{IsReady};
-ghost use Rattle.reg_core.specs.inner.Changes.{IsInterfaceOf};
+ghost use Rattle.core_parts.specs.Changes.{IsInterfaceOf};
 ghost use Rattle.reg_core.specs.inner.Checking.{HasCheckable, HasRestingIface, IsCheckOutcome};
 ghost use Rattle.reg_core.specs.inner.Deciding.{IsCore};
 
-use crate::book_call::BookCall;
-use crate::contexts::channel_of;
 use crate::core_state::Core;
 use crate::drivers::DriverRow;
-use crate::interface::{Interface, interface_named};
-use crate::judge::judge_check;
-use crate::radio::Radio;
-use crate::radios::{note_at, radio_at};
 use crate::starting::StartFault;
 use chan_def::ChanDef;
+use core_parts::{
+    BookCall, Interface, Radio, channel_of, interface_named, judge_check, note_at, radio_at,
+};
 use radio_drv::{IfIndex, Name};
 use reg_journal::Refusal;
 
@@ -84,7 +81,7 @@ impl Core {
 
     /// The interface of this name begins to check the channel for radar (`nl80211_start_radar_detection`), for
     /// so many ms as is answered. Its driver is told.
-    pub(crate) fn begin_check<D: DriverRow>(
+    pub(crate) fn launch_check<D: DriverRow>(
         &mut self,
         name: &Name,
         chan: &ChanDef,

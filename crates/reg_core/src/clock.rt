@@ -6,12 +6,11 @@ ghost use Rattle.reg_journal.specs.Causes.{IsFree};
 ghost use Rattle.reg_journal.specs.Facts.{Journal, moment_is};
 ghost use Rattle.reg_journal.specs.Present.{now_of};
 ghost use Rattle.reg_journal.specs.Refusals.{MomentCauses};
-ghost use Rattle.reg_core.specs.inner.Deciding.{Declines, TakesFact};
+ghost use Rattle.reg_core.specs.inner.Deciding.{TakesFact};
 ghost use Rattle.reg_core.specs.Kept.{Keeps};
 
 use crate::core_state::Core;
-use crate::declined::Declined;
-use crate::radios::advance_all;
+use core_parts::advance_all;
 use reg_journal::Refusal;
 
 /// The last moment, in ms.
@@ -32,14 +31,14 @@ fn moment_refusal(clock: u64, now: u64) -> Option<Refusal>
 }
 
 impl Core {
-    /// It is `now`, in ms.
-    pub(crate) fn at(&mut self, now: u64) -> Result<(), Declined>
+    /// The clock goes on to `now`, in ms.
+    pub(crate) fn advance_to(&mut self, now: u64) -> Result<(), Refusal>
         ensures taken { (db : List Domain) (J : Journal) → Keeps db self.old J → MatchResult result
             (λ _. TakesFact db J (MomentCauses J now) (moment_is now) self.new)
-            (Declines (MomentCauses J now) ⊥ self.old self.new) }
+            (λ e. MomentCauses J now e × (self.new ≡ self.old)) }
     {
         if let Some(refusal) = moment_refusal(self.clock, now) {
-            return Err(Declined::Refused(refusal));
+            return Err(refusal);
         }
         advance_all(&mut self.radios, now);
         self.clock = now;

@@ -5,17 +5,16 @@ ghost use Rattle.rule_tables.specs.declared.domain.Domain.{Domain};
 ghost use Rattle.reg_journal.specs.Due.{EachMayFollow, MayFollow};
 ghost use Rattle.reg_journal.specs.Facts.{Fact, Journal, after, check_dropped, powered};
 ghost use Rattle.reg_journal.specs.Present.{Iface};
-ghost use Rattle.reg_core.specs.Kept.{Keeps, KeepsRadios};
-ghost use Rattle.reg_core.specs.inner.Changes.{AreEachTold, CanAllCome, IsInterfaceOf, IsTold, fact_of, facts_of, interface_in};
-ghost use Rattle.reg_core.specs.inner.Operating.{TellsRunning, book_operation};
+ghost use Rattle.reg_core.specs.Kept.{Keeps};
+ghost use Rattle.core_parts.specs.Kept.{KeepsRadios};
+ghost use Rattle.core_parts.specs.Changes.{AreEachTold, CanAllCome, IsInterfaceOf, IsTold, fact_of, facts_of, interface_in};
+ghost use Rattle.core_parts.specs.Operating.{TellsRunning, book_operation};
 
-use crate::book_call::BookCall;
-use crate::change::Change;
 use crate::core_state::Core;
 use crate::drivers::DriverRow;
-use crate::interface::{Interface, Running, set_operation, set_power};
-use crate::radio::RadioPlace;
-use crate::radios::note_at;
+use core_parts::{
+    BookCall, Change, Interface, RadioPlace, Running, note_at, set_operation, set_power,
+};
 use dfs_states::IfSlot;
 use radio_drv::IfIndex;
 
@@ -84,6 +83,7 @@ impl Core {
             Change::Stopped(interface) => self.operate(interface, None),
             Change::Powered(interface, power_mbm) => self.repower(interface, *power_mbm),
             Change::Dropped(interface) => self.drop_check(interface),
+            Change::Ended(interface) => self.end_iface(interface),
         }
     }
 
@@ -112,6 +112,6 @@ pub(crate) fn tell<D: DriverRow>(drivers: &mut D, change: &Change)
         Change::Powered(interface, power_mbm) => {
             drivers.set_power(interface.radio, IfIndex(interface.index), *power_mbm);
         }
-        Change::Dropped(_interface) => {}
+        Change::Dropped(_interface) | Change::Ended(_interface) => {}
     }
 }

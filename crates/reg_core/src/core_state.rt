@@ -1,8 +1,6 @@
 //! What the core keeps.
 
-use crate::domains::Domains;
-use crate::interface::InterfaceList;
-use crate::radio::RadioPlace;
+use core_parts::{Domains, InterfaceList, RadioPlace};
 use reg_hints::Hints;
 use rule_intersect::Table;
 

@@ -9,8 +9,6 @@ use reg_lists::OutOfMemory;
 #[derive(Clone, Copy, Debug, PartialEq, Eq)]
 pub(crate) enum Declined {
     Refused(Refusal),
-    /// It isn't built yet.
-    PutOff,
     OutOfMemory,
 }
 

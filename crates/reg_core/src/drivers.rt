@@ -1,12 +1,12 @@
 //! The drivers of the radios.
 
-ghost use Rattle.std.specs.Prelude.{◌≡◌, List, Option, IsSome, length, map, MatchResult};
+ghost use Rattle.std.specs.Prelude.{◌≡◌, List, None, Option, IsSome, length, map, slice_set, MatchResult};
 ghost use Rattle.std.specs.Option.{option_map};
 ghost use Rattle.radio_drv.specs.Air.{powered, started, stopped};
 ghost use Rattle.radio_drv.specs.Seen.{Seen, seen as seen_one};
 ghost use Rattle.reg_journal.specs.OnAir.{entry};
-ghost use Rattle.reg_core.specs.DriverRows.{driver_at};
-ghost use Rattle.reg_core.specs.Told.{DriverFails, DriverHears, HasRoom, OneGoes, DriverTakes};
+ghost use Rattle.reg_books.specs.DriverRows.{driver_at};
+ghost use Rattle.reg_books.specs.Told.{DriverFails, DriverHears, HasRoom, OneGoes, DriverTakes};
 
 use chan_def::ChanDef;
 use radio_drv::{Driver, DriverFailed, IfIndex};
@@ -60,6 +60,11 @@ pub trait DriverRow {
     fn set_power(&mut self, radio: RadioNo, iface: IfIndex, power_mbm: u16)
         requires eight { length (seen self.old) ≡ 8 }
         ensures told { OneGoes radio (DriverTakes (powered iface power_mbm)) (seen self.old) (seen self.new) };
+
+    /// Drops the radio's driver, since the radio goes.
+    fn drop_driver(&mut self, radio: RadioNo)
+        requires eight { length (seen self.old) ≡ 8 }
+        ensures gone { seen self.new ≡ slice_set (seen self.old) radio None };
 }
 
 impl DriverRow for Drivers {
@@ -98,6 +103,10 @@ impl DriverRow for Drivers {
 
     fn set_power(&mut self, radio: RadioNo, iface: IfIndex, power_mbm: u16) {
         power_on(&mut self[radio.get() as usize], iface, power_mbm);
+    }
+
+    fn drop_driver(&mut self, radio: RadioNo) {
+        self[radio.get() as usize] = None;
     }
 }
 

@@ -1,5 +1,8 @@
 //! What is shown: nothing changes.
 
+mod channels;
+mod reports;
 mod sections;
+mod steps;
 
 pub(crate) use sections::all_sections;

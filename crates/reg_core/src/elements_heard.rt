@@ -13,7 +13,7 @@ ghost use Rattle.reg_core.specs.inner.Elements.{BarsElement, HasHint, HearsEleme
 use crate::core_state::Core;
 use crate::declined::Declined;
 use crate::drivers::DriverRow;
-use crate::radios::radio_at;
+use core_parts::radio_at;
 use reg_hints::{ElementFault, Hint, RadioNo, Treatment, read_country_element};
 use reg_journal::{Effects, Refusal};
 use rule_tables::Alpha2;
@@ -65,7 +65,7 @@ impl Core {
         requires eight { length (D.seen drivers.old) ≡ 8 }
         ensures taken { (db : List Domain) (J : Journal) → StandsFor db self.old J → MatchResult result
             (λ p. HearsElement db J radio body.now p.0 self.new (D.seen drivers.old) (D.seen drivers.new) p.1)
-            (IsReason (BarsElement db J radio body.now) ⊥) }
+            (IsReason (BarsElement db J radio body.now)) }
         ensures core_stays { OnErr result (self.new ≡ self.old) }
         ensures drivers_stay { OnErr result (D.seen drivers.new ≡ D.seen drivers.old) }
     {

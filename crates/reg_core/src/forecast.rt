@@ -11,21 +11,19 @@ ghost use Rattle.reg_journal.specs.Permits.{EndsCheck, IsLimitOf};
 ghost use Rattle.reg_journal.specs.Present.{Iface};
 ghost use Rattle.reg_journal.specs.Radar.{IsChannelState};
 ghost use Rattle.reg_journal.specs.Refusals.{IsInUse};
-ghost use Rattle.reg_core.specs.inner.Contexts.{IsOf};
-ghost use Rattle.reg_core.specs.inner.Judging.{IsSwept};
-ghost use Rattle.reg_core.specs.inner.Reading.{BarsCheckAtFirst, BarsStartAtFirst, MayBeChecked, MayBeStarted};
-ghost use Rattle.reg_core.specs.Kept.{KeepsRadio, StandsFor};
+ghost use Rattle.core_parts.specs.Contexts.{IsOf};
+ghost use Rattle.core_parts.specs.Judging.{IsSwept};
+ghost use Rattle.core_parts.specs.Reading.{BarsCheckAtFirst, BarsStartAtFirst, MayBeChecked, MayBeStarted};
+ghost use Rattle.core_parts.specs.Kept.{KeepsRadio};
+ghost use Rattle.reg_core.specs.Kept.{StandsFor};
 
-use crate::contexts::channel_of;
 use crate::core_state::Core;
-use crate::interface::Interface;
-use crate::judge::{judge, judge_check, refusal_of};
-use crate::lookup::with_radio;
-use crate::radio::Radio;
-use crate::radios::radio_at;
 use crate::starting::{is_in_use_for, is_same_kind};
 use chan_def::{ChanDef, Kind};
 use chan_flags::{PowerSetting, Verdict};
+use core_parts::{
+    Interface, Radio, channel_of, judge, judge_check, radio_at, refusal_of, with_radio,
+};
 use dfs_states::{Dfs, DfsBook};
 use radio_drv::Name;
 use reg_hints::RadioNo;
@@ -55,7 +53,7 @@ fn start_refusal(
 }
 
 /// Whether the interface has an operation or a running check.
-fn is_used(interface: &Interface, book: &DfsBook) -> bool
+pub(crate) fn is_used(interface: &Interface, book: &DfsBook) -> bool
     ensures { (db : List Domain) (J : Journal) (x : Iface) → IsOf db J x book.now interface.now → IsTrue result ↔ IsInUse J x }
 {
     channel_of(interface, book).is_some()

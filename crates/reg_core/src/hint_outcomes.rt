@@ -9,17 +9,15 @@ ghost use Rattle.reg_journal.specs.Refusals.{HintCauses, RowCauses};
 ghost use Rattle.rule_intersect.specs.declared.fault.ResolveFault.TheVariants.{OutOfMemory};
 ghost use Rattle.reg_core.specs.inner.Deciding.{IsCore, IsReason};
 ghost use Rattle.reg_core.specs.declared.declined.Declined.TheVariants.{OutOfMemory as NoMemory};
-ghost use Rattle.reg_core.specs.inner.Hinting.{AreNewTables, IsRowsFault, lists_after};
-ghost use Rattle.reg_core.specs.Kept.{Keeps, KeepsRadios};
-ghost use Rattle.reg_core.specs.inner.Lists.{global_by};
+ghost use Rattle.core_parts.specs.Hinting.{AreNewTables, IsRowsFault, lists_after};
+ghost use Rattle.reg_core.specs.Kept.{Keeps};
+ghost use Rattle.core_parts.specs.Kept.{KeepsRadios};
+ghost use Rattle.reg_books.specs.Lists.{global_by};
 ghost use Rattle.reg_core.specs.inner.Outcomes.{AreHintTables, IsOutcome};
 
 use crate::core_state::Core;
 use crate::declined::Declined;
-use crate::domains::Domains;
-use crate::hinting::{new_tables, retune_all};
-use crate::radio::RadioPlace;
-use crate::tables::global_table;
+use core_parts::{Domains, RadioPlace, global_table, new_tables, retune_all};
 use reg_hints::{Hint, Hints, Treatment};
 use reg_journal::Refusal;
 use rule_intersect::{ResolveFault, Table};
@@ -62,8 +60,8 @@ fn hint_tables(
 }
 
 /// Why nothing changes where a list has no table.
-fn declined(fault: ResolveFault) -> Declined
-    ensures rows { (lists : List (List Domain)) → IsRowsFault lists fault → IsReason (RowCauses lists) ⊥ result }
+pub(crate) fn declined(fault: ResolveFault) -> Declined
+    ensures rows { (lists : List (List Domain)) → IsRowsFault lists fault → IsReason (RowCauses lists) result }
     ensures memory { result ≡ NoMemory → fault ≡ OutOfMemory }
 {
     match fault {
@@ -79,7 +77,7 @@ impl Core {
         requires code { alpha2 ≡ hinted_code hint.now }
         ensures { (db : List Domain) (J : Journal) → Keeps db self.now J → MatchResult result
             (IsOutcome db J hint.now self.now.radios)
-            (IsReason (HintCauses db J (Treated hint.now)) ⊥) }
+            (IsReason (HintCauses db J (Treated hint.now))) }
     {
         if self.domains.find(alpha2).is_none() {
             return Err(Declined::Refused(Refusal::NoCountry(alpha2)));

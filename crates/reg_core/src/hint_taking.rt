@@ -13,7 +13,7 @@ ghost use Rattle.reg_core.specs.inner.HintsTaken.{MayHint, TakesHint};
 use crate::core_state::Core;
 use crate::declined::Declined;
 use crate::drivers::DriverRow;
-use crate::hinting::moved_by;
+use core_parts::moved_by;
 use reg_hints::{Hint, Treatment};
 use reg_journal::Effects;
 use rule_tables::Alpha2;
@@ -27,12 +27,12 @@ impl Core {
         hint: &Hint,
         drivers: &mut D,
     ) -> Result<(Treatment, Effects), Declined>
-        requires core { MayHint self.old hint.now }
+        requires core { MayHint self.old (Treated hint.now) }
         requires eight { length (D.seen drivers.old) ≡ 8 }
         requires code { alpha2 ≡ hinted_code hint.now }
         ensures taken { (db : List Domain) (J : Journal) → StandsFor db self.old J → FitsItsRadio J (Treated hint.now) → MatchResult result
             (λ p. TakesHint db J hint.now p.0 self.new (D.seen drivers.old) (D.seen drivers.new) p.1)
-            (IsReason (HintCauses db J (Treated hint.now)) ⊥) }
+            (IsReason (HintCauses db J (Treated hint.now))) }
         ensures core_stays { OnErr result (self.new ≡ self.old) }
         ensures drivers_stay { OnErr result (D.seen drivers.new ≡ D.seen drivers.old) }
     {

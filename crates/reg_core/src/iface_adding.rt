@@ -13,10 +13,9 @@ ghost use Rattle.reg_core.specs.Kept.{Keeps};
 
 use crate::core_state::Core;
 use crate::declined::Declined;
-use crate::interface::{Interface, count_on, free_slot_on, interface_named};
-use crate::radios::radio_at;
 use chan_def::Kind;
 use chan_flags::PowerSetting;
+use core_parts::{Interface, count_on, free_slot_on, interface_named, radio_at};
 use radio_drv::Name;
 use reg_hints::RadioNo;
 use reg_journal::Refusal;
@@ -57,7 +56,7 @@ impl Core {
         requires core { IsCore self.old }
         ensures taken { (db : List Domain) (J : Journal) → Keeps db self.old J → MatchResult result
             (λ _. TakesFact db J (IfaceAddCauses J radio name) (made (made_of J + 1) name radio kind) self.new)
-            (Declines (IfaceAddCauses J radio name) ⊥ self.old self.new) }
+            (Declines (IfaceAddCauses J radio name) self.old self.new) }
     {
         if let Some(refusal) = self.iface_refusal(radio, &name) {
             return Err(Declined::Refused(refusal));

@@ -8,9 +8,9 @@ ghost use Rattle.reg_core.specs.Kept.{Keeps, StandsFor};
 ghost use Rattle.reg_core.specs.inner.Deciding.{IsCore};
 ghost use Rattle.reg_core.specs.inner.Sweeping.{AreMoved, IsSweepOf, wanted};
 
-use crate::change::{effects_of, no_changes};
 use crate::core_state::Core;
 use crate::drivers::DriverRow;
+use core_parts::{effects_of, no_changes};
 use reg_hints::RadioNo;
 use reg_journal::Effects;
 

@@ -2,13 +2,11 @@
 
 ghost use Rattle.std.specs.Prelude.{[], List, IfOk};
 ghost use Rattle.rule_tables.specs.declared.domain.Domain.{Domain};
-ghost use Rattle.reg_core.specs.Kept.{KeepsRadios, StandsFor};
+ghost use Rattle.core_parts.specs.Kept.{KeepsRadios};
+ghost use Rattle.reg_core.specs.Kept.{StandsFor};
 
 use crate::core_state::Core;
-use crate::domains::Domains;
-use crate::interface::InterfaceList;
-use crate::radio::RadioPlace;
-use crate::tables::initial_table;
+use core_parts::{Domains, InterfaceList, RadioPlace, initial_table};
 use reg_hints::Hints;
 use reg_lists::OutOfMemory;
 use rule_tables::Db;

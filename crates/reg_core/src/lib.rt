@@ -2,47 +2,39 @@
 //! parts that count and no list.
 #![tactic(auto)]
 
-mod book_call;
-mod chan_set;
-mod change;
 mod checking;
 mod clock;
 mod commit;
-mod contexts;
 mod core_state;
+mod deciding;
 mod declined;
-mod domains;
+mod driver_hints;
 mod drivers;
 mod dumps;
 mod elements_heard;
 mod forecast;
 mod hint_outcomes;
 mod hint_taking;
-mod hinting;
 mod iface_adding;
+mod iface_deleting;
 mod indoors;
 mod initial;
-mod interface;
-mod judge;
-mod laws;
-mod lookup;
+mod powering;
 mod publishing;
-mod radar;
 mod radar_met;
-mod radio;
 mod radio_adding;
-mod radios;
-mod regions;
+mod radio_deleting;
+mod retyping;
+mod rules_set;
 mod starting;
 mod step;
 mod stopping;
 mod sweep;
-mod tables;
 
 pub use core_state::Core;
 pub use drivers::{DriverRow, Drivers};
-pub use laws::{
+pub use publishing::Shown;
+pub use reg_books::{
     books_are_told_what_journals_say, books_of_added_radios_are_blank, indexes_name_interfaces,
     interfaces_have_their_slots, what_operates_is_on_air,
 };
-pub use publishing::Shown;

@@ -6,10 +6,9 @@ ghost use Rattle.reg_journal.specs.Asking.{AreTables, LeadsTo};
 ghost use Rattle.reg_journal.specs.Dumps.{AreSections};
 ghost use Rattle.reg_journal.specs.Facts.{Journal};
 ghost use Rattle.reg_journal.specs.declared.request.Request.{Request};
-ghost use Rattle.reg_core.specs.Kept.{Keeps, StandsFor};
+ghost use Rattle.reg_core.specs.Kept.{StandsFor};
 
 use crate::core_state::Core;
-use crate::dumps::all_sections;
 use reg_journal::SectionList;
 use reg_lists::OutOfMemory;
 
@@ -23,19 +22,6 @@ pub struct Shown {
 }
 
 impl Core {
-    /// The sections of all lists.
-    fn sections(&self) -> Result<SectionList, OutOfMemory>
-        ensures shown { IfOk result (λ sections. (db : List Domain) (J : Journal) → Keeps db self.now J → AreSections db J sections) }
-    {
-        all_sections(
-            self.interfaces.allocator(),
-            &self.domains,
-            &self.hints,
-            &self.global,
-            &self.radios,
-        )
-    }
-
     /// The rules that hold, to be published with the number of requests that came. `OutOfMemory` is its
     /// one error.
     pub fn shown(&self, requests: u64) -> Result<Shown, OutOfMemory>

@@ -11,12 +11,11 @@ ghost use Rattle.reg_core.specs.Kept.{Keeps, StandsFor};
 ghost use Rattle.reg_core.specs.inner.Deciding.{IsCore};
 ghost use Rattle.reg_core.specs.inner.Sweeping.{IsSweepOf};
 
-use crate::book_call::BookCall;
 use crate::core_state::Core;
 use crate::drivers::DriverRow;
 use crate::indoors::nowhere;
-use crate::radios::{note_at, radio_at};
 use chan_def::ChanDef;
+use core_parts::{BookCall, note_at, radio_at};
 use reg_hints::RadioNo;
 use reg_journal::{Effects, Refusal};
 

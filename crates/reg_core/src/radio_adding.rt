@@ -10,8 +10,8 @@ ghost use Rattle.reg_core.specs.Kept.{Keeps};
 
 use crate::core_state::Core;
 use crate::declined::Declined;
-use crate::radio::{Radio, RadioPlace};
 use chan_flags::Profile;
+use core_parts::{Radio, RadioPlace};
 use reg_hints::RadioNo;
 use reg_journal::Refusal;
 
@@ -22,7 +22,7 @@ impl Core {
         requires profile { IsProfile profile }
         ensures taken { (db : List Domain) (J : Journal) → Keeps db self.old J → MatchResult result
             (λ _. TakesFact db J (RadioAddCauses J radio) (radio_added radio profile) self.new)
-            (Declines (RadioAddCauses J radio) ⊥ self.old self.new) }
+            (Declines (RadioAddCauses J radio) self.old self.new) }
     {
         let number = radio.get() as usize;
         if !self.radios[number].is_free() {

@@ -7,20 +7,16 @@ ghost use Rattle.chan_def.specs.declared.kind.Kind.TheVariants.{Monitor};
 ghost use Rattle.reg_journal.specs.Facts.{Journal};
 ghost use Rattle.reg_journal.specs.Present.{Iface};
 ghost use Rattle.reg_journal.specs.Refusals.{InUseFor, StartCauses};
-ghost use Rattle.reg_core.specs.inner.Contexts.{IsOf};
+ghost use Rattle.core_parts.specs.Contexts.{IsOf};
 ghost use Rattle.reg_core.specs.inner.Deciding.{IsCore};
 ghost use Rattle.reg_core.specs.Kept.{Keeps};
 ghost use Rattle.reg_core.specs.inner.Starting.{HasFreeIface, HasStart, IsStart};
 ghost use Rattle.reg_core.specs.Stepping.{IsReady};
 
-use crate::contexts::checked_channel;
 use crate::core_state::Core;
 use crate::drivers::DriverRow;
-use crate::interface::{Interface, Running, interface_named};
-use crate::judge::judge;
-use crate::radio::Radio;
-use crate::radios::radio_at;
 use chan_def::{ChanDef, Kind};
+use core_parts::{Interface, Radio, Running, checked_channel, interface_named, judge, radio_at};
 use dfs_states::DfsBook;
 use radio_drv::{IfIndex, Name};
 use reg_journal::Refusal;
@@ -115,7 +111,7 @@ impl Core {
 
     /// The interface of this name starts to operate on the channel, with the power in mBm that is answered
     /// (`nl80211_start_ap` and its like). Its driver is told.
-    pub(crate) fn start<D: DriverRow>(
+    pub(crate) fn begin_operation<D: DriverRow>(
         &mut self,
         name: &Name,
         kind: Kind,

@@ -7,17 +7,17 @@ ghost use Rattle.radio_drv.specs.Seen.{Seen};
 ghost use Rattle.reg_journal.specs.Facts.{Journal};
 ghost use Rattle.reg_journal.specs.Requests.{IsAskable};
 ghost use Rattle.reg_journal.specs.declared.reply.Reply.TheVariants.{Plain};
-ghost use Rattle.reg_journal.specs.declared.request.Request.TheVariants.{At, RadioAdd, Element as HeardElement, UserHint, Radar, Indoor, IfaceAdd, Start, Stop, Check};
+ghost use Rattle.reg_journal.specs.declared.request.Request.TheVariants.{RadioAdd, RadioDel, RadioRules, Element as HeardElement, DriverHint, UserHint, Indoor, IfaceAdd, IfaceDel, SetType as TypeSet};
 ghost use Rattle.reg_core.specs.inner.Deciding.{IsCore, IsReplyOf};
 ghost use Rattle.reg_core.specs.Kept.{StandsFor};
-ghost use Rattle.reg_core.specs.Stepping.{IsReady, IsStep};
+ghost use Rattle.reg_core.specs.Stepping.{IsReady, OneStep, checking_reply, done_reply, started_reply, swept_reply};
 
 use crate::core_state::Core;
 use crate::declined::Declined;
 use crate::drivers::DriverRow;
-use crate::starting::StartFault;
-use chan_def::{ChanDef, Kind};
+use chan_def::Kind;
 use chan_flags::Profile;
+use freq_range::RuleList;
 use radio_drv::Name;
 use reg_hints::{Hint, RadioNo};
 use reg_journal::{Answer, Effects, HintAnswer, Refusal, Reply, Request};
@@ -25,7 +25,7 @@ use reg_lists::OutOfMemory;
 use rule_tables::Alpha2;
 
 /// The answer, which nothing else came of.
-fn plain(answer: Answer) -> Reply
+pub(crate) fn plain(answer: Answer) -> Reply
     ensures { result ≡ Plain answer [] }
 {
     Reply::Plain {
@@ -35,13 +35,55 @@ fn plain(answer: Answer) -> Reply
 }
 
 /// The reply to a request that is declined.
-fn declined_reply(declined: Declined) -> Result<Reply, OutOfMemory>
+pub(crate) fn declined_reply(declined: Declined) -> Result<Reply, OutOfMemory>
     ensures { IsReplyOf declined result }
 {
     match declined {
         Declined::Refused(refusal) => Ok(plain(Answer::Refused(refusal))),
-        Declined::PutOff => Ok(plain(Answer::Refused(Refusal::NotBuilt))),
         Declined::OutOfMemory => Err(OutOfMemory),
+    }
+}
+
+/// The reply to a request that is done or refused.
+fn done(answer: Result<(), Refusal>) -> Reply
+    ensures { result ≡ done_reply answer }
+{
+    match answer {
+        Ok(()) => plain(Answer::Ok),
+        Err(refusal) => plain(Answer::Refused(refusal)),
+    }
+}
+
+/// The reply to a request with effects.
+fn swept(answer: Result<Effects, Refusal>) -> Reply
+    ensures { result ≡ swept_reply answer }
+{
+    match answer {
+        Ok(effects) => Reply::Plain {
+            answer: Answer::Ok,
+            effects,
+        },
+        Err(refusal) => plain(Answer::Refused(refusal)),
+    }
+}
+
+/// The reply to a start, which tells the power in mBm.
+fn started(answer: Result<u16, Refusal>) -> Reply
+    ensures { result ≡ started_reply answer }
+{
+    match answer {
+        Ok(power_mbm) => plain(Answer::Started(power_mbm)),
+        Err(refusal) => plain(Answer::Refused(refusal)),
+    }
+}
+
+/// The reply to a check, which tells its length in ms.
+fn checking(answer: Result<u32, Refusal>) -> Reply
+    ensures { result ≡ checking_reply answer }
+{
+    match answer {
+        Ok(length_ms) => plain(Answer::Checking(length_ms)),
+        Err(refusal) => plain(Answer::Refused(refusal)),
     }
 }
 
@@ -54,9 +96,8 @@ impl Core {
     ) -> Result<Reply, OutOfMemory>
         requires ready { IsReady self.old (D.seen drivers.old) }
         requires askable { IsAskable request.now }
-        // The reply is the journal's and the core stands for the next one, whatever journal it stood for; a request that isn't built
-        // yet changes nothing.
-        ensures step { IfOk result (λ reply. (db : List Domain) (J : Journal) → StandsFor db self.old J → IsStep db J request.now self.old self.new
+        // The reply is the journal's and the core stands for the next one, whatever journal it stood for.
+        ensures step { IfOk result (λ reply. (db : List Domain) (J : Journal) → StandsFor db self.old J → OneStep db J request.now self.old self.new
             (D.seen drivers.old) (D.seen drivers.new) reply) }
         ensures core_stays { OnErr result (self.new ≡ self.old) }
         ensures drivers_stay { OnErr result (D.seen drivers.new ≡ D.seen drivers.old) }
@@ -73,51 +114,45 @@ impl Core {
     ) -> Result<Reply, OutOfMemory>
         requires ready { IsReady self.old (D.seen drivers.old) }
         requires askable { IsAskable request.now }
-        ensures step { IfOk result (λ reply. (db : List Domain) (J : Journal) → StandsFor db self.old J → IsStep db J request.now self.old self.new
+        ensures step { IfOk result (λ reply. (db : List Domain) (J : Journal) → StandsFor db self.old J → OneStep db J request.now self.old self.new
             (D.seen drivers.old) (D.seen drivers.new) reply) }
         ensures core_stays { OnErr result (self.new ≡ self.old) }
         ensures drivers_stay { OnErr result (D.seen drivers.new ≡ D.seen drivers.old) }
     {
         match request {
-            Request::At(moment) => self.step_at(*moment),
+            Request::At(moment) => Ok(done(self.at(*moment))),
             Request::RadioAdd { radio, profile } => self.step_radio_add(*radio, *profile),
             Request::Element { radio, body } => self.step_element(*radio, body.as_slice(), drivers),
+            Request::RadioRules { radio, rules } => self.step_radio_rules(*radio, rules, drivers),
+            Request::DriverHint { radio, alpha2 } => {
+                self.step_driver_hint(*radio, *alpha2, drivers)
+            }
             Request::UserHint(alpha2) => self.step_user_hint(*alpha2, drivers),
-            Request::Radar { radio, chan } => Ok(self.step_radar(*radio, chan, drivers)),
+            Request::Radar { radio, chan } => Ok(swept(self.radar(*radio, chan, drivers))),
             Request::Indoor(on) => Ok(self.step_indoor(*on, drivers)),
             Request::IfaceAdd { radio, name, kind } => self.step_iface_add(*radio, *name, *kind),
-            Request::Start { name, kind, chan } => Ok(self.step_start(name, *kind, chan, drivers)),
-            Request::Stop { name, kind } => Ok(self.step_stop(name, *kind, drivers)),
-            Request::Check { name, chan } => Ok(self.step_check(name, chan, drivers)),
-            Request::RadioDel(_)
-            | Request::RadioRules { .. }
-            | Request::DriverHint { .. }
-            | Request::IfaceDel(_)
-            | Request::SetType { .. }
-            | Request::SetPower { .. }
-            | Request::GetReg
-            | Request::Channels(_)
-            | Request::RadioInfo(_)
-            | Request::IfaceInfo(_) => Ok(plain(Answer::Refused(Refusal::NotBuilt))),
-        }
-    }
-
-    fn step_at(&mut self, moment: u64) -> Result<Reply, OutOfMemory>
-        requires core { IsCore self.old }
-        ensures step { IfOk result (λ reply. (db : List Domain) (J : Journal) (row : List (Option Seen)) → StandsFor db self.old J
-            → IsStep db J (At moment) self.old self.new row row reply) }
-        ensures core_stays { OnErr result (self.new ≡ self.old) }
-    {
-        match self.at(moment) {
-            Ok(()) => Ok(plain(Answer::Ok)),
-            Err(declined) => declined_reply(declined),
+            Request::Start { name, kind, chan } => {
+                Ok(started(self.start(name, *kind, chan, drivers)))
+            }
+            Request::Stop { name, kind } => Ok(done(self.stop(name, *kind, drivers))),
+            Request::Check { name, chan } => Ok(checking(self.begin_check(name, chan, drivers))),
+            Request::RadioDel(radio) => Ok(self.step_radio_del(*radio, drivers)),
+            Request::IfaceDel(name) => Ok(self.step_iface_del(name, drivers)),
+            Request::SetType { name, kind } => Ok(self.step_set_type(name, *kind)),
+            Request::SetPower { name, setting } => {
+                Ok(swept(self.set_power(name, *setting, drivers)))
+            }
+            Request::GetReg => self.step_get_reg(),
+            Request::Channels(radio) => self.step_channels(*radio),
+            Request::RadioInfo(radio) => self.step_radio_info(*radio),
+            Request::IfaceInfo(name) => Ok(self.step_iface_info(name)),
         }
     }
 
     fn step_radio_add(&mut self, radio: RadioNo, profile: Profile) -> Result<Reply, OutOfMemory>
         requires core { IsCore self.old }
         ensures step { IfOk result (λ reply. (db : List Domain) (J : Journal) (row : List (Option Seen)) → StandsFor db self.old J
-            → IsStep db J (RadioAdd radio profile) self.old self.new row row reply) }
+            → OneStep db J (RadioAdd radio profile) self.old self.new row row reply) }
         ensures core_stays { OnErr result (self.new ≡ self.old) }
     {
         // That the profile is one of its type is told by reading it.
@@ -135,7 +170,7 @@ impl Core {
         drivers: &mut D,
     ) -> Result<Reply, OutOfMemory>
         requires ready { IsReady self.old (D.seen drivers.old) }
-        ensures step { IfOk result (λ reply. (db : List Domain) (J : Journal) → StandsFor db self.old J → IsStep db J (HeardElement radio body.now) self.old self.new
+        ensures step { IfOk result (λ reply. (db : List Domain) (J : Journal) → StandsFor db self.old J → OneStep db J (HeardElement radio body.now) self.old self.new
             (D.seen drivers.old) (D.seen drivers.new) reply) }
         ensures core_stays { OnErr result (self.new ≡ self.old) }
         ensures drivers_stay { OnErr result (D.seen drivers.new ≡ D.seen drivers.old) }
@@ -155,7 +190,7 @@ impl Core {
         drivers: &mut D,
     ) -> Result<Reply, OutOfMemory>
         requires ready { IsReady self.old (D.seen drivers.old) }
-        ensures step { IfOk result (λ reply. (db : List Domain) (J : Journal) → StandsFor db self.old J → IsStep db J (UserHint alpha2) self.old self.new
+        ensures step { IfOk result (λ reply. (db : List Domain) (J : Journal) → StandsFor db self.old J → OneStep db J (UserHint alpha2) self.old self.new
             (D.seen drivers.old) (D.seen drivers.new) reply) }
         ensures core_stays { OnErr result (self.new ≡ self.old) }
         ensures drivers_stay { OnErr result (D.seen drivers.new ≡ D.seen drivers.old) }
@@ -163,6 +198,49 @@ impl Core {
         match self.take_hint(alpha2, &Hint::User(alpha2), drivers) {
             Ok((treatment, effects)) => Ok(Reply::Plain {
                 answer: Answer::Hint(HintAnswer::Treated(treatment)),
+                effects,
+            }),
+            Err(declined) => declined_reply(declined),
+        }
+    }
+
+    fn step_radio_rules<D: DriverRow>(
+        &mut self,
+        radio: RadioNo,
+        rules: &RuleList,
+        drivers: &mut D,
+    ) -> Result<Reply, OutOfMemory>
+        requires ready { IsReady self.old (D.seen drivers.old) }
+        requires askable { IsAskable (RadioRules radio rules.now) }
+        ensures step { IfOk result (λ reply. (db : List Domain) (J : Journal) → StandsFor db self.old J → OneStep db J (RadioRules radio rules.now) self.old self.new
+            (D.seen drivers.old) (D.seen drivers.new) reply) }
+        ensures core_stays { OnErr result (self.new ≡ self.old) }
+        ensures drivers_stay { OnErr result (D.seen drivers.new ≡ D.seen drivers.old) }
+    {
+        match self.set_rules(radio, rules, drivers) {
+            Ok(effects) => Ok(Reply::Plain {
+                answer: Answer::Ok,
+                effects,
+            }),
+            Err(declined) => declined_reply(declined),
+        }
+    }
+
+    fn step_driver_hint<D: DriverRow>(
+        &mut self,
+        radio: RadioNo,
+        alpha2: Alpha2,
+        drivers: &mut D,
+    ) -> Result<Reply, OutOfMemory>
+        requires ready { IsReady self.old (D.seen drivers.old) }
+        ensures step { IfOk result (λ reply. (db : List Domain) (J : Journal) → StandsFor db self.old J → OneStep db J (DriverHint radio alpha2) self.old self.new
+            (D.seen drivers.old) (D.seen drivers.new) reply) }
+        ensures core_stays { OnErr result (self.new ≡ self.old) }
+        ensures drivers_stay { OnErr result (D.seen drivers.new ≡ D.seen drivers.old) }
+    {
+        match self.hear_driver(radio, alpha2, drivers) {
+            Ok((answer, effects)) => Ok(Reply::Plain {
+                answer: Answer::Hint(answer),
                 effects,
             }),
             Err(declined) => declined_reply(declined),
@@ -177,7 +255,7 @@ impl Core {
     ) -> Result<Reply, OutOfMemory>
         requires core { IsCore self.old }
         ensures step { IfOk result (λ reply. (db : List Domain) (J : Journal) (row : List (Option Seen)) → StandsFor db self.old J
-            → IsStep db J (IfaceAdd radio name kind) self.old self.new row row reply) }
+            → OneStep db J (IfaceAdd radio name kind) self.old self.new row row reply) }
         ensures core_stays { OnErr result (self.new ≡ self.old) }
     {
         match self.add_iface(radio, name, kind) {
@@ -186,70 +264,39 @@ impl Core {
         }
     }
 
-    fn step_radar<D: DriverRow>(&mut self, radio: RadioNo, chan: &ChanDef, drivers: &mut D) -> Reply
+    fn step_radio_del<D: DriverRow>(&mut self, radio: RadioNo, drivers: &mut D) -> Reply
         requires ready { IsReady self.old (D.seen drivers.old) }
-        ensures step { (db : List Domain) (J : Journal) → StandsFor db self.old J → IsStep db J (Radar radio chan.now) self.old self.new
+        ensures step { (db : List Domain) (J : Journal) → StandsFor db self.old J → OneStep db J (RadioDel radio) self.old self.new
             (D.seen drivers.old) (D.seen drivers.new) result }
     {
-        match self.meet_radar(radio, chan, drivers) {
-            Ok(effects) => Reply::Plain {
-                answer: Answer::Ok,
-                effects,
-            },
-            Err(refusal) => plain(Answer::Refused(refusal)),
-        }
+        swept(self.del_radio(radio, drivers))
+    }
+
+    fn step_iface_del<D: DriverRow>(&mut self, name: &Name, drivers: &mut D) -> Reply
+        requires ready { IsReady self.old (D.seen drivers.old) }
+        ensures step { (db : List Domain) (J : Journal) → StandsFor db self.old J → OneStep db J (IfaceDel name.now) self.old self.new
+            (D.seen drivers.old) (D.seen drivers.new) result }
+    {
+        swept(self.del_iface(name, drivers))
+    }
+
+    fn step_set_type(&mut self, name: &Name, kind: Kind) -> Reply
+        requires core { IsCore self.old }
+        ensures step { (db : List Domain) (J : Journal) (row : List (Option Seen)) → StandsFor db self.old J
+            → OneStep db J (TypeSet name.now kind) self.old self.new row row result }
+    {
+        done(self.set_type(name, kind))
     }
 
     fn step_indoor<D: DriverRow>(&mut self, on: bool, drivers: &mut D) -> Reply
         requires ready { IsReady self.old (D.seen drivers.old) }
-        ensures step { (db : List Domain) (J : Journal) → StandsFor db self.old J → IsStep db J (Indoor on) self.old self.new
+        ensures step { (db : List Domain) (J : Journal) → StandsFor db self.old J → OneStep db J (Indoor on) self.old self.new
             (D.seen drivers.old) (D.seen drivers.new) result }
     {
         let effects = self.set_indoor(on, drivers);
         Reply::Plain {
             answer: Answer::Ok,
             effects,
-        }
-    }
-
-    fn step_start<D: DriverRow>(
-        &mut self,
-        name: &Name,
-        kind: Kind,
-        chan: &ChanDef,
-        drivers: &mut D,
-    ) -> Reply
-        requires ready { IsReady self.old (D.seen drivers.old) }
-        ensures step { (db : List Domain) (J : Journal) → StandsFor db self.old J → IsStep db J (Start name.now kind chan.now) self.old self.new
-            (D.seen drivers.old) (D.seen drivers.new) result }
-    {
-        match self.start(name, kind, chan, drivers) {
-            Ok(power_mbm) => plain(Answer::Started(power_mbm)),
-            Err(StartFault::Refused(refusal)) => plain(Answer::Refused(refusal)),
-            Err(StartFault::Driver) => plain(Answer::Refused(Refusal::DriverFailed)),
-        }
-    }
-
-    fn step_check<D: DriverRow>(&mut self, name: &Name, chan: &ChanDef, drivers: &mut D) -> Reply
-        requires ready { IsReady self.old (D.seen drivers.old) }
-        ensures step { (db : List Domain) (J : Journal) → StandsFor db self.old J → IsStep db J (Check name.now chan.now) self.old self.new
-            (D.seen drivers.old) (D.seen drivers.new) result }
-    {
-        match self.begin_check(name, chan, drivers) {
-            Ok(length_ms) => plain(Answer::Checking(length_ms)),
-            Err(StartFault::Refused(refusal)) => plain(Answer::Refused(refusal)),
-            Err(StartFault::Driver) => plain(Answer::Refused(Refusal::DriverFailed)),
-        }
-    }
-
-    fn step_stop<D: DriverRow>(&mut self, name: &Name, kind: Kind, drivers: &mut D) -> Reply
-        requires ready { IsReady self.old (D.seen drivers.old) }
-        ensures step { (db : List Domain) (J : Journal) → StandsFor db self.old J → IsStep db J (Stop name.now kind) self.old self.new
-            (D.seen drivers.old) (D.seen drivers.new) result }
-    {
-        match self.stop(name, kind, drivers) {
-            Ok(()) => plain(Answer::Ok),
-            Err(refusal) => plain(Answer::Refused(refusal)),
         }
     }
 }

@@ -8,13 +8,12 @@ ghost use Rattle.reg_core.specs.Kept.{Keeps};
 ghost use Rattle.reg_core.specs.inner.Starting.{HasStop, IsStop};
 ghost use Rattle.reg_core.specs.Stepping.{IsReady};
 
-use crate::change::Change;
 use crate::commit::tell;
 use crate::core_state::Core;
 use crate::drivers::DriverRow;
-use crate::interface::{Interface, interface_named};
 use crate::starting::is_same_kind;
 use chan_def::Kind;
+use core_parts::{Change, Interface, interface_named};
 use radio_drv::Name;
 use reg_journal::Refusal;
 
@@ -37,7 +36,7 @@ impl Core {
     }
 
     /// The interface of this name stops to operate (`nl80211_stop_ap`). Its driver is told.
-    pub(crate) fn stop<D: DriverRow>(
+    pub(crate) fn end_operation<D: DriverRow>(
         &mut self,
         name: &Name,
         kind: Kind,

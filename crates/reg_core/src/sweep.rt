@@ -6,25 +6,28 @@ ghost use Rattle.chan_def.specs.Covered.{IsValidDef};
 ghost use Rattle.reg_journal.specs.Facts.{Journal};
 ghost use Rattle.reg_journal.specs.Present.{Check, Iface, Operation, check_of, ifaces_of, operation_of};
 ghost use Rattle.reg_journal.specs.Sweep.{MustDrop, RegionChangedInCheck};
-ghost use Rattle.reg_core.specs.Kept.{Keeps, kept_operation};
+ghost use Rattle.reg_core.specs.Kept.{Keeps};
+ghost use Rattle.core_parts.specs.Kept.{kept_operation};
 ghost use Rattle.reg_core.specs.inner.Deciding.{IsCore};
-ghost use Rattle.reg_core.specs.inner.Judging.{IsSwept, IsSweptSomewhere};
+ghost use Rattle.core_parts.specs.Judging.{IsSwept, IsSweptSomewhere};
 ghost use Rattle.reg_core.specs.inner.Sweeping.{AreEach, AreMoved, Judges, is_wanted, wanted};
-ghost use Rattle.reg_core.specs.inner.Repowering.{repowered};
+ghost use Rattle.core_parts.specs.Repowering.{repowered};
 
-use crate::change::{Change, Changes, add_change};
-use crate::contexts::checked_channel;
 use crate::core_state::Core;
-use crate::interface::{Interface, Running};
-use crate::judge::{check_permit, permit};
-use crate::radio::Radio;
-use crate::radios::radio_at;
 use chan_def::ChanDef;
 use chan_flags::PowerSetting;
+use core_parts::{
+    Change, Changes, Interface, Radio, Running, add_change, check_permit, checked_channel, permit,
+    radio_at,
+};
 use reg_hints::RadioNo;
 
 /// The operation goes on with this power, in mBm.
-fn repowered(interface: &Interface, operation: &Running, power_mbm: u16) -> Option<Change>
+pub(crate) fn repowered(
+    interface: &Interface,
+    operation: &Running,
+    power_mbm: u16,
+) -> Option<Change>
     ensures { result ≡ repowered interface.now operation.now power_mbm }
 {
     if operation.power_mbm == power_mbm {

@@ -10,13 +10,14 @@ use Rattle.reg_journal.specs.Facts.{Journal, check_begun}
 use Rattle.reg_journal.specs.Permits.{IsLengthOf}
 use Rattle.reg_journal.specs.Present.{Iface, named}
 use Rattle.reg_journal.specs.Refusals.{CheckCauses, IsInUse}
-use Rattle.reg_core.specs.Kept.{Keeps, KeepsRadio, kept}
-use Rattle.reg_core.specs.Told.{DriverHears, OneGoes}
-use Rattle.reg_core.specs.inner.Judging.{BarsBeginning}
+use Rattle.reg_core.specs.Kept.{Keeps}
+use Rattle.core_parts.specs.Kept.{KeepsRadio, kept}
+use Rattle.reg_books.specs.Told.{DriverHears, OneGoes}
+use Rattle.core_parts.specs.Judging.{BarsBeginning}
 use Rattle.reg_core.specs.inner.Starting.{Falls}
 use Rattle.reg_core.specs.declared.core_state.Core.{Core}
-use Rattle.reg_core.specs.declared.interface.Interface.{Interface}
-use Rattle.reg_core.specs.declared.radio.Radio.{Radio}
+use Rattle.core_parts.specs.declared.interface.Interface.{Interface}
+use Rattle.core_parts.specs.declared.radio.Radio.{Radio}
 use Rattle.reg_core.specs.declared.starting.StartFault.{StartFault}
 use Rattle.reg_core.specs.declared.starting.StartFault.TheVariants.{Refused, Driver}
 

@@ -5,14 +5,13 @@ use Rattle.rule_tables.specs.declared.domain.Domain.{Domain}
 use Rattle.reg_journal.specs.Causes.{IsFree}
 use Rattle.reg_journal.specs.Facts.{Fact, Journal}
 use Rattle.reg_journal.specs.declared.refusal.Refusal.{Refusal}
-use Rattle.reg_journal.specs.declared.refusal.Refusal.TheVariants.{NotBuilt}
 use Rattle.reg_journal.specs.declared.reply.Answer.TheVariants.{Refused as RefusedAnswer}
 use Rattle.reg_journal.specs.declared.reply.Reply.{Reply}
 use Rattle.reg_journal.specs.declared.reply.Reply.TheVariants.{Plain}
 use Rattle.reg_core.specs.Kept.{Keeps}
 use Rattle.reg_core.specs.declared.core_state.Core.{Core}
 use Rattle.reg_core.specs.declared.declined.Declined.{Declined}
-use Rattle.reg_core.specs.declared.declined.Declined.TheVariants.{Refused, PutOff, OutOfMemory}
+use Rattle.reg_core.specs.declared.declined.Declined.TheVariants.{Refused, OutOfMemory}
 
 -- the core keeps some journal
 pub record IsCore (core : Core) : Type 0 where
@@ -25,20 +24,18 @@ pub record TakesFact (db : List Domain) (J : Journal) (causes : Refusal → Type
   pub free : IsFree causes
   pub keeps : Keeps db new (f ∷ J)
 
--- why nothing changes: a refusal that comes by the causes, what is put off, or out of memory
-abbrev pub IsReason : (Refusal → Type 0) → Type 0 → Declined → Type 0
-IsReason causes off (Refused e) = causes e
-IsReason causes off PutOff = off
-IsReason causes off OutOfMemory = Unit {0}
+-- why nothing changes: a refusal that comes by the causes, or out of memory
+abbrev pub IsReason : (Refusal → Type 0) → Declined → Type 0
+IsReason causes (Refused e) = causes e
+IsReason causes OutOfMemory = Unit {0}
 
 -- the request is declined, and the core is as before
-pub record Declines (causes : Refusal → Type 0) (off : Type 0) (old new : Core) (declined : Declined) : Type 0 where
-  pub reason : IsReason causes off declined
+pub record Declines (causes : Refusal → Type 0) (old new : Core) (declined : Declined) : Type 0 where
+  pub reason : IsReason causes declined
   pub unchanged : new ≡ old
 
 -- the reply to a request that is declined, or out of memory
 abbrev pub IsReplyOf : Declined → Result Reply NoMemory → Type 0
 IsReplyOf (Refused e) (Ok reply) = reply ≡ Plain (RefusedAnswer e) []
-IsReplyOf PutOff (Ok reply) = reply ≡ Plain (RefusedAnswer NotBuilt) []
 IsReplyOf OutOfMemory (Err none) = Unit {0}
 IsReplyOf declined other = ⊥

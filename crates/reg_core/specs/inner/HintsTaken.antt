@@ -2,7 +2,7 @@
 use Rattle.std.specs.Prelude.{◌≡◌, List, ◌∷◌, Option}
 use Rattle.rule_tables.specs.declared.domain.Domain.{Domain}
 use Rattle.radio_drv.specs.Seen.{Seen}
-use Rattle.reg_hints.specs.Table.{Treated, treatment}
+use Rattle.reg_hints.specs.Table.{Hinted, Treated, treatment}
 use Rattle.reg_hints.specs.declared.hint.Hint.{Hint}
 use Rattle.reg_hints.specs.declared.hint.Treatment.{Treatment}
 use Rattle.reg_journal.specs.Applicable.{hints_of}
@@ -17,11 +17,11 @@ use Rattle.reg_core.specs.inner.Sweeping.{IsSweepOf}
 use Rattle.reg_core.specs.declared.core_state.Core.{Core}
 
 -- the core keeps some journal that the hint fits
-pub record MayHint (core : Core) (hint : Hint) : Type 0 where
+pub record MayHint (core : Core) (hint : Hinted) : Type 0 where
   pub db : List Domain
   pub journal : Journal
   pub keeps : Keeps db core journal
-  pub fits : FitsItsRadio journal (Treated hint)
+  pub fits : FitsItsRadio journal hint
 
 -- Nothing speaks against the hint; it is treated so, and all interfaces are swept.
 pub record TakesHint (db : List Domain) (J : Journal) (hint : Hint) (t : Treatment) (new : Core) (row row' : List (Option Seen)) (effects : List Effect) : Type 0 where

@@ -8,10 +8,10 @@ use Rattle.reg_journal.specs.Applicable.{hints_of}
 use Rattle.reg_journal.specs.Causes.{IsFree}
 use Rattle.reg_journal.specs.Facts.{Journal, hinted}
 use Rattle.reg_journal.specs.Refusals.{HintCauses}
-use Rattle.reg_core.specs.inner.Hinting.{AreNewTables}
-use Rattle.reg_core.specs.inner.Lists.{global_by}
+use Rattle.core_parts.specs.Hinting.{AreNewTables}
+use Rattle.reg_books.specs.Lists.{global_by}
 use Rattle.reg_core.specs.declared.hint_outcomes.HintTables.{HintTables}
-use Rattle.reg_core.specs.declared.radio.RadioPlace.{RadioPlace}
+use Rattle.core_parts.specs.declared.radio.RadioPlace.{RadioPlace}
 use Rattle.reg_core.specs.declared.hint_outcomes.HintOutcome.{HintOutcome}
 
 -- the tables of the global list and of each radio's, where all hints have led to these

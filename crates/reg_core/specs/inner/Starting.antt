@@ -14,11 +14,12 @@ use Rattle.reg_journal.specs.Present.{Iface, Operation, named, operation_of}
 use Rattle.reg_journal.specs.Refusals.{StartCauses, StopCauses}
 use Rattle.reg_journal.specs.declared.refusal.Refusal.{Refusal}
 use Rattle.reg_journal.specs.declared.refusal.Refusal.TheVariants.{DriverFailed}
-use Rattle.reg_core.specs.Kept.{Keeps, KeepsRadio, kept}
-use Rattle.reg_core.specs.Told.{DriverFails, OneGoes, DriverTakes}
+use Rattle.reg_core.specs.Kept.{Keeps}
+use Rattle.core_parts.specs.Kept.{KeepsRadio, kept}
+use Rattle.reg_books.specs.Told.{DriverFails, OneGoes, DriverTakes}
 use Rattle.reg_core.specs.declared.core_state.Core.{Core}
-use Rattle.reg_core.specs.declared.interface.Interface.{Interface}
-use Rattle.reg_core.specs.declared.radio.Radio.{Radio}
+use Rattle.core_parts.specs.declared.interface.Interface.{Interface}
+use Rattle.core_parts.specs.declared.radio.Radio.{Radio}
 use Rattle.reg_core.specs.declared.starting.StartFault.{StartFault}
 use Rattle.reg_core.specs.declared.starting.StartFault.TheVariants.{Refused, Driver}
 

@@ -9,8 +9,8 @@ use Rattle.reg_journal.specs.Present.{Check, Iface, check_of, ifaces_of}
 use Rattle.reg_journal.specs.Sweep.{Becomes, RegionChangedInCheck}
 use Rattle.reg_journal.specs.declared.effects.Effect.{Effect}
 use Rattle.reg_core.specs.Kept.{Keeps}
-use Rattle.reg_core.specs.inner.Changes.{AreEachTold, CanAllCome, IsInterfaceOf, effect_in, fact_of, facts_of, interface_in}
-use Rattle.reg_core.specs.declared.change.Change.{Change}
+use Rattle.core_parts.specs.Changes.{AreEachTold, CanAllCome, IsInterfaceOf, effect_in, fact_of, facts_of, interface_in}
+use Rattle.core_parts.specs.declared.change.Change.{Change}
 use Rattle.reg_core.specs.declared.core_state.Core.{Core}
 
 -- what is to become of the interface, and to whom it comes

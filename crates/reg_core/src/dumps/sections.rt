@@ -9,15 +9,13 @@ ghost use Rattle.rule_intersect.specs.Tables.{IsTableOf};
 ghost use Rattle.reg_journal.specs.Applicable.{global_domains, hints_of};
 ghost use Rattle.reg_journal.specs.Dumps.{AreSections, AreShown, IsGlobalSection, IsRadioSection, IsSection, code_of_list, has_own_list, row_as_is, row_shown};
 ghost use Rattle.reg_journal.specs.Facts.{Journal};
-ghost use Rattle.reg_core.specs.inner.Lists.{applies_by, shared_by};
-ghost use Rattle.reg_core.specs.inner.Reading.{with_own_list};
-ghost use Rattle.reg_core.specs.Kept.{KeepsRadio, KeepsRadios};
+ghost use Rattle.reg_books.specs.Lists.{applies_by, shared_by};
+ghost use Rattle.core_parts.specs.Reading.{with_own_list};
+ghost use Rattle.core_parts.specs.Kept.{KeepsRadio, KeepsRadios};
 
-use crate::domains::{CustomRules, Domains};
-use crate::radio::{Radio, RadioPlace};
-use crate::radios::radio_at;
-use crate::regions::region_of;
-use crate::tables::{custom_of, driver_of};
+use core_parts::{
+    CustomRules, Domains, Radio, RadioPlace, custom_of, driver_of, radio_at, region_of,
+};
 use freq_range::Rule;
 use reg_hints::{Hints, RadioNo};
 use reg_journal::{RowList, Section, SectionList};

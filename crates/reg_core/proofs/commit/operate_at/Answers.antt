@@ -1,6 +1,6 @@
 use Rattle.std.proofs.Common.{ap, sym, ◌∙◌, Some}
-use Rattle.reg_core.specs.inner.BookCalls.{call_in}
-use Rattle.reg_core.proofs.Operated.{sent_call, sent_elsewhere, speaks_running, unsent}
+use Rattle.core_parts.specs.BookCalls.{call_in}
+use Rattle.core_parts.proofs.Operated.{sent_call, sent_elsewhere, speaks_running, unsent}
 use Rattle.reg_core.proofs.commit.operate_at.Goals as goal
 
 pub returns-then-initiates : goal.returns-then-initiates

@@ -2,7 +2,7 @@ use Rattle.std.proofs.Common.{refl, sym, ap, ◌∙◌, inl, inr}
 use Rattle.std.proofs.lemmas.Bool.{false≢true}
 use Rattle.chan_def.specs.Kinds.{initiates}
 use Rattle.reg_journal.proofs.Granting.{free-where}
-use Rattle.reg_core.specs.declared.interface.Interface.{Interface}
+use Rattle.core_parts.specs.declared.interface.Interface.{Interface}
 use Rattle.reg_core.proofs.forecast.check_refusal.Goals as goal
 
 pub returns-then-is_used-clause-first : goal.returns-then-is_used-clause-first

@@ -1,6 +1,6 @@
 use Rattle.std.proofs.Common.{◌↔◌, IsTrue, is_some, sym, subst}
 use Rattle.reg_journal.specs.Refusals.{IsInUse}
-use Rattle.reg_core.proofs.InUse.{used_on_channel}
+use Rattle.reg_books.proofs.InUse.{used_on_channel}
 use Rattle.reg_core.proofs.forecast.is_used.Goals as goal
 
 pub returns : goal.returns

@@ -1,6 +1,6 @@
 use Rattle.reg_journal.specs.Applicable.{applies}
 use Rattle.reg_core.proofs.Forecasts.{limit_of_verdict}
-use Rattle.reg_core.proofs.SweepJudged.{ends_check_by, verdict_auto}
+use Rattle.core_parts.proofs.Permitted.{ends_check_by, verdict_auto}
 use Rattle.reg_core.proofs.forecast.limit_on.Goals as goal
 
 pub returns-in-Refused : goal.returns-in-Refused

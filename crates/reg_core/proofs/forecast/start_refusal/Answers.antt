@@ -1,7 +1,7 @@
 use Rattle.std.proofs.Common.{refl, sym, ap, ◌∙◌, inl, inr}
 use Rattle.std.proofs.lemmas.Bool.{false≢true}
 use Rattle.reg_journal.proofs.Granting.{free-where}
-use Rattle.reg_core.specs.declared.interface.Interface.{Interface}
+use Rattle.core_parts.specs.declared.interface.Interface.{Interface}
 use Rattle.reg_core.proofs.forecast.start_refusal.Goals as goal
 
 pub returns-then-is_in_use_for-clause-first : goal.returns-then-is_in_use_for-clause-first

@@ -1,8 +1,8 @@
 use Rattle.std.proofs.Common.{◌∷◌}
-use Rattle.reg_core.specs.inner.Hinting.{lists_after}
-use Rattle.reg_core.specs.inner.Lists.{global_by}
+use Rattle.core_parts.specs.Hinting.{lists_after}
+use Rattle.reg_books.specs.Lists.{global_by}
 use Rattle.reg_core.proofs.HintRefusals.{rows_after_global}
-use Rattle.reg_core.proofs.NewTables.{refused}
+use Rattle.core_parts.proofs.NewTables.{refused}
 use Rattle.reg_core.proofs.hint_outcomes.hint_tables.Goals as goal
 
 pub returns-in_err-radios-clause-fault : goal.returns-in_err-radios-clause-fault

@@ -1,7 +1,8 @@
 use Rattle.std.proofs.Common.{subst, sym}
 use Rattle.chan_def.specs.Covered.{IsValidDef}
-use Rattle.reg_core.specs.declared.interface.Running.{Running}
-use Rattle.reg_core.proofs.SweepJudged.{no_operation_read, operation_read, operation_valid}
+use Rattle.core_parts.specs.declared.interface.Running.{Running}
+use Rattle.reg_core.proofs.SweepJudged.{no_operation_read, operation_read}
+use Rattle.reg_journal.proofs.Wholes.{operation_valid}
 use Rattle.reg_core.proofs.sweep.change_of.Goals as goal
 
 pub change_of_operation-requires : goal.change_of_operation-requires

@@ -1,6 +1,7 @@
 use Rattle.std.proofs.Common.{subst, sym}
 use Rattle.chan_def.specs.Covered.{IsValidDef}
-use Rattle.reg_core.proofs.SweepJudged.{check_drops, check_goes_on, check_read, check_valid, no_check, none_read, of_swept}
+use Rattle.reg_core.proofs.SweepJudged.{check_drops, check_goes_on, check_read, no_check, none_read, of_swept}
+use Rattle.reg_journal.proofs.Wholes.{check_valid}
 use Rattle.reg_core.proofs.sweep.change_of_check.Goals as goal
 
 pub must_drop-requires : goal.must_drop-requires

@@ -2,8 +2,8 @@ use Rattle.std.proofs.Common.{subst}
 use Rattle.reg_journal.specs.Applicable.{applies}
 use Rattle.reg_journal.specs.Granted.{IsPermitted}
 use Rattle.reg_journal.specs.Permits.{EndsOperation}
-use Rattle.reg_core.specs.declared.interface.Running.{Running}
-use Rattle.reg_core.proofs.Judged.{verdict_kept}
+use Rattle.core_parts.specs.declared.interface.Running.{Running}
+use Rattle.core_parts.proofs.Judged.{verdict_kept}
 use Rattle.reg_core.proofs.SweepJudged.{operation_goes_on, operation_stops}
 use Rattle.reg_core.proofs.sweep.change_of_operation.Goals as goal
 

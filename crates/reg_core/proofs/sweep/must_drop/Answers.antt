@@ -1,7 +1,7 @@
 use Rattle.std.proofs.Common.{inl, inr, subst, sym}
 use Rattle.reg_journal.specs.Applicable.{applies}
 use Rattle.reg_journal.specs.Permits.{EndsCheck}
-use Rattle.reg_core.proofs.SweepJudged.{verdict_auto}
+use Rattle.core_parts.proofs.Permitted.{verdict_auto}
 use Rattle.reg_core.proofs.sweep.must_drop.Goals as goal
 
 pub returns-then-moved : goal.returns-then-moved

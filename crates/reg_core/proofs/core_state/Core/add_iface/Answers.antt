@@ -1,6 +1,6 @@
 use Rattle.std.proofs.Common.{◌+◌, ◌++◌, ◌∷◌, [], arith, ap, ◌∙◌}
-use Rattle.reg_core.specs.inner.Interfaces.{slot_on}
-use Rattle.reg_core.proofs.KeptInterfaces.{new_interface}
+use Rattle.core_parts.specs.Interfaces.{slot_on}
+use Rattle.core_parts.proofs.KeptInterfaces.{new_interface}
 use Rattle.reg_core.proofs.KeptOver.{keeps_after_making}
 use Rattle.reg_core.proofs.core_state.Core.add_iface.Goals as goal
 

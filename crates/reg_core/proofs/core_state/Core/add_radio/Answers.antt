@@ -2,13 +2,15 @@ use Rattle.std.proofs.Common.{rules, ◌≡◌, ◌∷◌, Bool, true, false, �
 use Rattle.std.proofs.Math.ListN.{set}
 use Rattle.reg_journal.proofs.Granting.{free-where}
 use Rattle.reg_journal.specs.Due.{EachMayFollow}
-use Rattle.reg_core.specs.declared.radio.RadioPlace.TheVariants.{There}
+use Rattle.core_parts.specs.declared.radio.RadioPlace.TheVariants.{There}
 use Rattle.reg_journal.specs.Facts.{radio_added}
 use Rattle.reg_journal.specs.Present.{is_used}
-use Rattle.reg_core.specs.Kept.{Keeps, KeepsRadio}
-use Rattle.reg_core.proofs.Moments.{now_of-small}
-use Rattle.reg_core.proofs.Newcomers.{driver_code_of-unused}
-use Rattle.reg_core.proofs.KeptOver.{place_kept, keeps_after_radio}
+use Rattle.reg_core.specs.Kept.{Keeps}
+use Rattle.core_parts.specs.Kept.{KeepsRadio}
+use Rattle.reg_books.proofs.Moments.{now_of-small}
+use Rattle.reg_books.proofs.Newcomers.{driver_code_of-unused}
+use Rattle.core_parts.proofs.KeptPlaces.{place_kept}
+use Rattle.reg_core.proofs.KeptOver.{keeps_after_radio}
 use Rattle.reg_core.proofs.core_state.Core.add_radio.Goals as goal
 
 used : (free is : Bool) → free ≡ false → (IsTrue free ↔ (is ≡ false)) → IsTrue is

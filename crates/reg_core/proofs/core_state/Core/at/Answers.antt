@@ -1,12 +1,11 @@
-use Rattle.std.proofs.Common.{◌≤◌, subst}
-use Rattle.reg_core.proofs.KeptOver.{keeps_after_moment}
+use Rattle.reg_journal.specs.declared.request.Request.TheVariants.{At}
+use Rattle.reg_core.specs.Stepping.{done_reply}
+use Rattle.reg_core.proofs.Decided.{moment_decided}
+use Rattle.reg_core.proofs.OneSteps.{ready_after}
 use Rattle.reg_core.proofs.core_state.Core.at.Goals as goal
 
-pub returns : goal.returns
-returns c = let due = c.in_default.ensures.due in record {
-  taken = λ db J s. record {
-    free = c.in_default.ensures.first J s.clock;
-    keeps = keeps_after_moment db J c.args.self.now c.args.now c.advance_all.new.radios s due.0 due.1
-        (c.advance_all.ensures.kept db J s.radios (subst (λ n. n ≤ c.args.now) s.clock due.0, due.1));
-  };
-}
+pub returns-clause-step : goal.returns-clause-step
+returns-clause-step c = λ db J row s. moment_decided db J c.args.now c.args.self.now c.advance_to.new.self row c.advance_to.result s (c.advance_to.ensures.taken db J s.keeps)
+
+pub returns-clause-ready : goal.returns-clause-ready
+returns-clause-ready c = λ row ready. ready_after (At c.args.now) c.args.self.now c.advance_to.new.self row row (done_reply c.advance_to.result) ready (λ db J s. moment_decided db J c.args.now c.args.self.now c.advance_to.new.self row c.advance_to.result s (c.advance_to.ensures.taken db J s.keeps))

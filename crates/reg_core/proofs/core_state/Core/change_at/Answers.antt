@@ -1,8 +1,8 @@
 use Rattle.std.proofs.Common.{◌≡◌, true, Contains, get_or, ap, refl, subst, sym, ◌∙◌}
 use Rattle.reg_journal.specs.Present.{Iface, ifaces_of}
-use Rattle.reg_core.specs.Kept.{kept}
+use Rattle.core_parts.specs.Kept.{kept}
 use Rattle.reg_core.specs.inner.Sweeping.{is_wanted}
-use Rattle.reg_core.specs.declared.interface.Interface.{Interface}
+use Rattle.core_parts.specs.declared.interface.Interface.{Interface}
 use Rattle.reg_core.proofs.SweepPlaces.{at_place, moved_at, one_at_place, radio_kept, swept_at}
 use Rattle.reg_core.proofs.core_state.Core.change_at.Goals as goal
 

@@ -25,3 +25,11 @@ returns-in-Dropped c = record {
       let is' = rw c.in-Dropped.is at is in
       rw c.in-Dropped.is (c.drop_check.ensures.kept db J x s is' (may', s.due));
 }
+
+pub returns-in-Ended : goal.returns-in-Ended
+returns-in-Ended c = record {
+  kept = λ db J x s may is.
+      let may' = rw c.in-Ended.is at may in
+      let is' = rw c.in-Ended.is at is in
+      rw c.in-Ended.is (c.end_iface.ensures.kept db J x s is' (may', s.due));
+}

@@ -1,6 +1,6 @@
 use Rattle.reg_journal.specs.Facts.{check_dropped}
 use Rattle.reg_core.proofs.KeptChanges.{keeps_after_drop}
-use Rattle.reg_core.proofs.Operated.{drop_call, drop_elsewhere}
+use Rattle.core_parts.proofs.Operated.{drop_call, drop_elsewhere}
 use Rattle.reg_core.proofs.core_state.Core.drop_check.Goals as goal
 
 pub returns : goal.returns

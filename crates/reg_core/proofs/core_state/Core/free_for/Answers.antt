@@ -4,14 +4,14 @@ use Rattle.rule_tables.specs.declared.domain.Domain.{Domain}
 use Rattle.reg_journal.specs.Due.{EachMayFollow}
 use Rattle.reg_journal.specs.Facts.{Journal}
 use Rattle.reg_journal.specs.Present.{Iface, named, profile_of}
-use Rattle.reg_core.specs.inner.Contexts.{IsOf}
-use Rattle.reg_core.specs.Kept.{KeepsRadio, kept}
-use Rattle.reg_core.specs.declared.interface.Interface.{Interface}
-use Rattle.reg_core.specs.declared.radio.Radio.{Radio}
-use Rattle.reg_core.proofs.Interfaces.{home_listed}
-use Rattle.reg_core.proofs.KeptInterfaces.{none_named, some_named}
-use Rattle.reg_core.proofs.Listed.{named_listed}
-use Rattle.reg_core.proofs.Operating.{home_there}
+use Rattle.core_parts.specs.Contexts.{IsOf}
+use Rattle.core_parts.specs.Kept.{KeepsRadio, kept}
+use Rattle.core_parts.specs.declared.interface.Interface.{Interface}
+use Rattle.core_parts.specs.declared.radio.Radio.{Radio}
+use Rattle.reg_journal.proofs.Radios.{home_listed}
+use Rattle.core_parts.proofs.KeptInterfaces.{none_named, some_named}
+use Rattle.reg_journal.proofs.Listed.{named_listed}
+use Rattle.reg_journal.proofs.Operating.{home_there}
 use Rattle.reg_core.proofs.StartReasons.{start_barred, start_of_wrong_kind, start_unnamed, start_while_busy}
 use Rattle.reg_core.proofs.core_state.Core.free_for.Goals as goal
 

@@ -5,11 +5,11 @@ use Rattle.reg_journal.specs.Applicable.{find_domain}
 use Rattle.reg_journal.specs.Facts.{Journal}
 use Rattle.reg_journal.specs.Refusals.{RowCauses}
 use Rattle.reg_core.specs.inner.Deciding.{IsReason}
-use Rattle.reg_core.specs.inner.Hinting.{lists_after}
+use Rattle.core_parts.specs.Hinting.{lists_after}
 use Rattle.reg_core.specs.Kept.{Keeps}
-use Rattle.reg_core.specs.inner.Lists.{global_by}
+use Rattle.reg_books.specs.Lists.{global_by}
 use Rattle.reg_core.specs.inner.Outcomes.{AreHintTables}
-use Rattle.reg_core.proofs.AllLists.{global_by-after}
+use Rattle.core_parts.proofs.AllLists.{global_by-after}
 use Rattle.reg_core.proofs.HintRefusals.{MayLead, free_of_tables, may_lead, reason_of_rows, some_unless_none}
 use Rattle.reg_core.proofs.core_state.Core.hint_outcome.Goals as goal
 
@@ -57,4 +57,4 @@ returns-in-Err c = λ db J s.
     let places = c.args.self.now.radios in
     let lists = global_by c.args.self.now.domains led ∷ lists_after c.args.self.now.domains led hint 0 places in
     reason_of_rows db J hint led places c.declined.result (leads c.before.before.before db J s) (search rules) s.radios
-    (subst (λ ds. IsReason (RowCauses (global_by ds led ∷ lists_after ds led hint 0 places)) ⊥ c.declined.result) s.domains (c.declined.ensures.rows lists c.in-Err.ensures.fault))
+    (subst (λ ds. IsReason (RowCauses (global_by ds led ∷ lists_after ds led hint 0 places)) c.declined.result) s.domains (c.declined.ensures.rows lists c.in-Err.ensures.fault))

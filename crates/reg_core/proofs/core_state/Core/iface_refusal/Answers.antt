@@ -2,8 +2,8 @@ use Rattle.std.proofs.Common.{◌≡◌, ◌≤◌, ◌⊎◌, length, refl, ap,
 use Rattle.std.proofs.lemmas.Bool.{false≢true}
 use Rattle.reg_journal.proofs.Granting.{free-before, free-where}
 use Rattle.reg_journal.specs.Present.{ifaces_on, made_of, most_made}
-use Rattle.reg_core.specs.inner.Interfaces.{interfaces_on}
-use Rattle.reg_core.proofs.KeptInterfaces.{count_on-kept, none_named, some_named}
+use Rattle.core_parts.specs.Interfaces.{interfaces_on}
+use Rattle.core_parts.proofs.KeptInterfaces.{count_on-kept, none_named, some_named}
 use Rattle.reg_core.proofs.core_state.Core.iface_refusal.Goals as goal
 use Rattle.reg_core.proofs.core_state.Core.iface_refusal.Goals.{then-count_on-ge-MOST_ON_RADIO-via-then-count_on-ge-MOST_ON_RADIO, then-count_on-ge-MOST_ON_RADIO-via-else-count_on-ge-MOST_ON_RADIO+then-self-ge4294967295}
 

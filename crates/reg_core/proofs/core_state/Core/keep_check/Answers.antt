@@ -1,6 +1,6 @@
 use Rattle.reg_journal.specs.Facts.{check_begun}
 use Rattle.reg_core.proofs.KeptChanges.{keeps_after_begin}
-use Rattle.reg_core.proofs.Operated.{begin_call, begin_elsewhere}
+use Rattle.core_parts.proofs.Operated.{begin_call, begin_elsewhere}
 use Rattle.reg_core.proofs.core_state.Core.keep_check.Goals as goal
 
 pub returns : goal.returns

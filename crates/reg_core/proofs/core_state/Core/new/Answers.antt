@@ -1,7 +1,7 @@
 use Rattle.std.proofs.Common.{rules, refl, subst}
 use Rattle.rule_intersect.specs.Tables.{IsTableOf}
 use Rattle.reg_hints.specs.Table.{no_hints}
-use Rattle.reg_core.specs.inner.Lists.{global_by}
+use Rattle.reg_books.specs.Lists.{global_by}
 use Rattle.reg_core.proofs.AtFirst.{stands_at_first}
 use Rattle.reg_core.proofs.core_state.Core.new.Goals as goal
 

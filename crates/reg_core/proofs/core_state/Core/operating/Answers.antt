@@ -3,10 +3,10 @@ use Rattle.std.proofs.lemmas.Bool.{false≢true}
 use Rattle.std.proofs.lemmas.Option.{none-some}
 use Rattle.reg_journal.proofs.Granting.{free-where}
 use Rattle.reg_journal.specs.Present.{Operation, operation_of}
-use Rattle.reg_core.specs.Kept.{kept_operation}
-use Rattle.reg_core.specs.declared.interface.Interface.{Interface}
-use Rattle.reg_core.specs.declared.interface.Running.{Running}
-use Rattle.reg_core.proofs.KeptInterfaces.{none_named, some_named}
+use Rattle.core_parts.specs.Kept.{kept_operation}
+use Rattle.core_parts.specs.declared.interface.Interface.{Interface}
+use Rattle.core_parts.specs.declared.interface.Running.{Running}
+use Rattle.core_parts.proofs.KeptInterfaces.{none_named, some_named}
 use Rattle.reg_core.proofs.StartReasons.{stop_barred}
 use Rattle.reg_core.proofs.core_state.Core.operating.Goals as goal
 

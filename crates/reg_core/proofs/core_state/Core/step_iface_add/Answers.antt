@@ -8,7 +8,6 @@ returns-in-Ok-clause-step c = λ db J row s. rw c.plain.ensures (iface_taken db 
 
 pub returns-in-Err-clause-step : goal.returns-in-Err-clause-step
 returns-in-Err-clause-step c =
-    step_declined (IfaceAdd c.args.radio c.args.name c.args.kind) (λ db J. IfaceAddCauses J c.args.radio c.args.name) (λ db J. ⊥) c.args.self.now c.add_iface.new.self c.in-Err.declined c.declined_reply.result c.declined_reply.ensures
+    step_declined (IfaceAdd c.args.radio c.args.name c.args.kind) (λ db J. IfaceAddCauses J c.args.radio c.args.name) c.args.self.now c.add_iface.new.self c.in-Err.declined c.declined_reply.result c.declined_reply.ensures
     (λ db J s. c.in-Err.ensures.taken db J s)
     (λ db J e row s cause same. iface_refused db J c.args.radio c.args.name c.args.kind e c.args.self.now c.add_iface.new.self row s cause same)
-    (λ db J off built. off)

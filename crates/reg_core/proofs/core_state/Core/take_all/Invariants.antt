@@ -4,7 +4,7 @@ use Rattle.radio_drv.specs.Seen.{Seen}
 use Rattle.std.specs.Prelude.{Option}
 use Rattle.reg_journal.specs.Facts.{Journal}
 use Rattle.reg_core.specs.Kept.{Keeps}
-use Rattle.reg_core.specs.inner.Changes.{AreEachTold, CanAllCome}
+use Rattle.core_parts.specs.Changes.{AreEachTold, CanAllCome}
 use Rattle.reg_core.proofs.Taking.{OnTheWay}
 use Rattle.reg_core.proofs.core_state.Core.take_all.Given as goal
 

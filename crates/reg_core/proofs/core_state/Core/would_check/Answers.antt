@@ -1,9 +1,9 @@
 use Rattle.std.proofs.Common.{◌∙◌}
-use Rattle.reg_core.specs.inner.Judging.{IsJudged}
-use Rattle.reg_core.specs.inner.Reading.{AreKeptParts}
+use Rattle.core_parts.specs.Judging.{IsJudged}
+use Rattle.core_parts.specs.Reading.{AreKeptParts}
 use Rattle.reg_core.proofs.Forecasts.{begins_unended, would_bar_check, would_bar_judged, would_check}
-use Rattle.reg_core.proofs.Judged.{swept_of_judged}
-use Rattle.reg_core.proofs.Named.{named_among, named_is_of}
+use Rattle.core_parts.proofs.Judged.{swept_of_judged}
+use Rattle.core_parts.proofs.Named.{named_among, named_is_of}
 use Rattle.reg_core.proofs.core_state.Core.would_check.Goals as goal
 
 pub returns-in-Some : goal.returns-in-Some

@@ -1,7 +1,7 @@
 use Rattle.std.proofs.Common.{◌∙◌}
-use Rattle.reg_core.specs.inner.Reading.{AreKeptParts}
+use Rattle.core_parts.specs.Reading.{AreKeptParts}
 use Rattle.reg_core.proofs.Forecasts.{would_bar_start, would_judge_start}
-use Rattle.reg_core.proofs.Named.{named_among, named_is_of}
+use Rattle.core_parts.proofs.Named.{named_among, named_is_of}
 use Rattle.reg_core.proofs.core_state.Core.would_start.Goals as goal
 
 pub returns-in-Some : goal.returns-in-Some

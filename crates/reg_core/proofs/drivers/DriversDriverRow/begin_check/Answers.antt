@@ -1,6 +1,6 @@
 use Rattle.std.proofs.Common.{arith}
 use Rattle.std.proofs.lemmas.Grind.{common_steps}
-use Rattle.reg_core.proofs.Tellings.{one_went}
+use Rattle.reg_books.proofs.Tellings.{one_went}
 use Rattle.reg_core.proofs.drivers.DriversDriverRow.begin_check.Goals as goal
 
 pub returns-in-Ok : goal.returns-in-Ok

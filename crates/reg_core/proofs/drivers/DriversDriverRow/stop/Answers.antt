@@ -1,6 +1,6 @@
 use Rattle.std.proofs.Common.{arith}
 use Rattle.std.proofs.lemmas.Grind.{common_steps}
-use Rattle.reg_core.proofs.Tellings.{one_went}
+use Rattle.reg_books.proofs.Tellings.{one_went}
 use Rattle.reg_core.proofs.drivers.DriversDriverRow.stop.Goals as goal
 
 pub returns : goal.returns

@@ -2,8 +2,8 @@ use Rattle.std.proofs.Common.{◌+◌, ◌∷◌, [], sym, subst}
 use Rattle.std.specs.List.{AllZip}
 use Rattle.std.specs.Option.{option_to_list}
 use Rattle.reg_journal.specs.Dumps.{IsRadioSection}
-use Rattle.reg_core.specs.inner.Reading.{AreSectionsBelow, with_own_list}
-use Rattle.reg_core.proofs.ShownSections.{sections_more}
+use Rattle.core_parts.specs.Reading.{AreSectionsBelow, with_own_list}
+use Rattle.core_parts.proofs.ShownSections.{sections_more}
 use Rattle.reg_core.proofs.dumps.sections.all_sections.Goals as goal
 
 pub loop-number-preserved : goal.loop-number-preserved

@@ -2,8 +2,8 @@ use Rattle.std.proofs.Common.{◌≡◌}
 use Rattle.rule_intersect.specs.Tables.{IsTableOf}
 use Rattle.reg_journal.specs.Applicable.{global_domains, hints_of}
 use Rattle.reg_journal.specs.Facts.{Journal}
-use Rattle.reg_core.specs.Kept.{KeepsRadios}
-use Rattle.reg_core.specs.inner.Reading.{AreSectionsBelow}
+use Rattle.core_parts.specs.Kept.{KeepsRadios}
+use Rattle.core_parts.specs.Reading.{AreSectionsBelow}
 use Rattle.reg_core.proofs.dumps.sections.all_sections.Given as goal
 
 abbrev pub invariant-loop-number : goal.invariant-loop-number

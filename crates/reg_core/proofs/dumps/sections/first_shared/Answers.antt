@@ -1,8 +1,8 @@
 use Rattle.std.proofs.Common.{arith, slice_get, sym, ap, ◌∙◌}
 use Rattle.std.proofs.lemmas.Option.{slice_get_within}
 use Rattle.reg_journal.specs.Applicable.{find_domain}
-use Rattle.reg_core.proofs.FirstDomains.{first_found, none_more}
-use Rattle.reg_core.proofs.Fronts.{codes_all}
+use Rattle.core_parts.proofs.FirstDomains.{first_found, none_more}
+use Rattle.core_parts.proofs.Fronts.{codes_all}
 use Rattle.reg_core.proofs.dumps.sections.first_shared.Goals as goal
 
 pub returns-in-Some-find : goal.returns-in-Some-find

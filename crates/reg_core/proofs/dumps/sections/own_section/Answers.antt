@@ -1,4 +1,4 @@
-use Rattle.reg_core.proofs.ShownSections.{none_there}
+use Rattle.core_parts.proofs.ShownSections.{none_there}
 use Rattle.reg_core.proofs.dumps.sections.own_section.Goals as goal
 
 pub returns-in_default : goal.returns-in_default

@@ -1,6 +1,6 @@
 use Rattle.std.proofs.Common.{◌++◌, ◌∷◌, [], map, take, sym, ap, ◌∙◌}
 use Rattle.reg_journal.specs.Dumps.{row_shown}
-use Rattle.reg_core.proofs.Taken.{map-take_got}
+use Rattle.core_parts.proofs.Taken.{map-take_got}
 use Rattle.reg_core.proofs.dumps.sections.rows_shown.Goals as goal
 
 pub loop-k-preserved : goal.loop-k-preserved

@@ -1,0 +1,15 @@
+pub mod Kept
+pub mod BookCalls
+pub mod Changes
+pub mod Contexts
+pub mod Demands
+pub mod Hinting
+pub mod Interfaces
+pub mod Judging
+pub mod Making
+pub mod Operating
+pub mod Reading
+pub mod RegionSoFar
+pub mod Repowering
+pub mod TableRules
+pub mod Worlds

@@ -1,7 +1,0 @@
-use Rattle.std.proofs.Common.{◌≡◌, ◌<◌, ◌&&◌, ◌==◌, true, ℕ}
-use Rattle.std.specs.List.{list_any}
-use Rattle.reg_core.specs.inner.Interfaces.{is_on_radio}
-use Rattle.reg_core.proofs.interface.free_number.Given as goal
-
-abbrev pub invariant-loop-number : goal.invariant-loop-number
-invariant-loop-number l = (k : ℕ) → k < l.number → list_any (λ p. is_on_radio l.radio p && p.slot == k) l.interfaces ≡ true
