@@ -1,4 +1,3 @@
 pub mod Scripts
-pub mod Spelling
 pub mod Cutting
 pub mod Printed

@@ -1,19 +1,20 @@
 -- The texts of replies and of faults of lines. Each line ends with a newline.
-use Rattle.std.specs.Prelude.{◌≡◌, ℕ, ◌/◌, List, ◌++◌, codes, decimal}
+use Rattle.std.specs.Prelude.{◌≡◌, ℕ, List, ◌++◌, codes, decimal}
 use Rattle.reg_base.specs.Texts.{line_of}
 use Rattle.std.specs.List.{flat_map}
 use Rattle.reg_hints.specs.declared.hint.Treatment.TheVariants.{Replace, Intersect, Already, Ignore}
 use Rattle.reg_journal.specs.declared.effects.Effect.{Effect}
 use Rattle.reg_journal.specs.declared.effects.Effect.TheVariants.{Stopped, Dropped, Power as EffectPower}
 use Rattle.reg_journal.specs.declared.refusal.Refusal.{Refusal}
-use Rattle.reg_journal.specs.declared.refusal.Refusal.TheVariants.{MomentBack, MomentTooLarge, NoRadio, SlotUsed, NoInterface, NameTaken, Full, WrongType, Busy, BadChannel, RadioLacks, RadioLacksWidth, RadioLacksContext, NoRule, Width, NoOfdm, NoIr, NoOutdoor, Power, RadioLacksRadarWidth, Radar, Unchecked, DriverFailed, NothingToCheck, NotRunning, NoCountry, TooManyDomains, TooManyRows, NoRules, TooManyRules, BadRule, ElementShort, ElementOdd, ElementNotLetters, NotBuilt as RequestNotBuilt}
+use Rattle.reg_journal.specs.declared.refusal.Refusal.TheVariants.{MomentBack, MomentTooLarge, NoRadio, SlotUsed, NoInterface, NameTaken, Full, WrongType, Busy, BadChannel, RadioLacks, RadioLacksWidth, RadioLacksContext, NoRule, Width, NoOfdm, NoIr, NoOutdoor, Power, RadioLacksRadarWidth, Radar, Unchecked, DriverFailed, NothingToCheck, NotRunning, NoCountry, TooManyDomains, TooManyRows, NoRules, TooManyRules, BadRule, ElementShort, ElementOdd, ElementNotLetters}
 use Rattle.reg_journal.specs.declared.reply.Answer.{Answer}
 use Rattle.reg_journal.specs.declared.reply.Answer.TheVariants.{Ok as Done, Hint, Started, Checking, Refused}
 use Rattle.reg_journal.specs.declared.reply.HintAnswer.{HintAnswer}
 use Rattle.reg_journal.specs.declared.reply.HintAnswer.TheVariants.{Treated, Own}
 use Rattle.reg_journal.specs.declared.reply.Reply.{Reply}
-use Rattle.reg_journal.specs.declared.reply.Reply.TheVariants.{Plain}
-use Rattle.iw_commands.specs.Spelling.{code_text, radio_text}
+use Rattle.reg_journal.specs.declared.reply.Reply.TheVariants.{Plain, Regs, Channels, Radio as OfRadio, Iface as OfIface}
+use Rattle.iw_dumps.specs.DumpTexts.{channels_text, iface_report_text, radio_report_text, sections_text}
+use Rattle.iw_dumps.specs.Spelling.{code_text, radio_text, whole_mhz_text}
 use Rattle.line_forms.specs.declared.fault.LineFault.{LineFault}
 use Rattle.line_forms.specs.declared.fault.LineFault.TheVariants.{TooLong, NotAscii, Unknown, BadNumber, BadForm, Missing}
 
@@ -21,10 +22,6 @@ use Rattle.line_forms.specs.declared.fault.LineFault.TheVariants.{TooLong, NotAs
 pub record KeepsFront (before now : List ℕ) : Type 0 where
   pub more : List ℕ
   pub is : now ≡ before ++ more
-
--- kHz in whole MHz, rounded down
-abbrev pub whole_mhz_text : ℕ → List ℕ
-whole_mhz_text khz = decimal (khz / 1000)
 
 -- ---- answers
 
@@ -72,7 +69,6 @@ refusal_text (BadRule place) = codes "bad rule " ++ decimal place
 refusal_text (ElementShort bytes) = codes "element short " ++ decimal bytes
 refusal_text (ElementOdd bytes) = codes "element odd " ++ decimal bytes
 refusal_text ElementNotLetters = codes "element not letters"
-refusal_text RequestNotBuilt = codes "not built"
 
 -- powers in mBm, lengths in ms
 abbrev pub answer_text : Answer → List ℕ
@@ -100,19 +96,21 @@ effect_lines effects = flat_map (λ effect. line_of (effect_text effect)) effect
 abbrev pub plain_text : Answer → List Effect → List ℕ
 plain_text answer effects = line_of (answer_text answer) ++ effect_lines effects
 
--- an answer with its effects, and no dump
-abbrev pub IsPlain : Reply → Type 0
-IsPlain (Plain answer effects) = Unit {0}
-IsPlain reply = ⊥
+-- the text of a reply
+abbrev pub text_of_reply : Reply → List ℕ
+text_of_reply (Plain answer effects) = plain_text answer effects
+text_of_reply (Regs sections) = sections_text sections
+text_of_reply (Channels radio list) = channels_text list
+text_of_reply (OfRadio report) = radio_report_text report
+text_of_reply (OfIface report) = iface_report_text report
 
--- the text of a plain reply
+-- this is the text of the reply
 abbrev pub IsTextOf : Reply → List ℕ → Type 0
-IsTextOf (Plain answer effects) text = text ≡ plain_text answer effects
-IsTextOf reply text = ⊥
+IsTextOf reply text = text ≡ text_of_reply reply
 
 -- that text stands behind what was there before
 abbrev pub AppendsTextOf : Reply → List ℕ → List ℕ → Type 0
-AppendsTextOf reply before now = (text : List ℕ) × IsTextOf reply text × (now ≡ before ++ text)
+AppendsTextOf reply before now = now ≡ before ++ text_of_reply reply
 
 -- ---- faults of lines
 

@@ -2,6 +2,7 @@
 #![tactic(auto)]
 
 mod cutter;
+mod dump_printer;
 mod fault;
 mod pieces_printer;
 mod refusal_printer;

@@ -1,8 +1,8 @@
 //! Prints the parts of a line.
 
 ghost use Rattle.std.specs.Prelude.{◌≡◌, ◌++◌, decimal, OnOk};
-ghost use Rattle.iw_commands.specs.Printed.{KeepsFront, whole_mhz_text};
-ghost use Rattle.iw_commands.specs.Spelling.{code_text, radio_text};
+ghost use Rattle.iw_commands.specs.Printed.{KeepsFront};
+ghost use Rattle.iw_dumps.specs.Spelling.{code_text, radio_text, whole_mhz_text};
 
 use itoa::Buffer;
 use reg_base::Bytes;

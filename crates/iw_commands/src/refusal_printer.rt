@@ -53,6 +53,5 @@ pub fn put_refusal(out: &mut Bytes, refusal: &Refusal) -> Result<(), OutOfMemory
         Refusal::ElementShort(bytes) => put_number(out, b"element short ", *bytes as u64),
         Refusal::ElementOdd(bytes) => put_number(out, b"element odd ", *bytes as u64),
         Refusal::ElementNotLetters => put_text(out, b"element not letters"),
-        Refusal::NotBuilt => put_text(out, b"not built"),
     }
 }

@@ -2,8 +2,9 @@
 
 ghost use Rattle.std.specs.Prelude.{◌≡◌, ◌++◌, IfOk, OnOk};
 ghost use Rattle.reg_base.specs.Texts.{line_of};
-ghost use Rattle.iw_commands.specs.Printed.{KeepsFront, AppendsTextOf, IsPlain, IsTextOf, answer_text, effect_lines, effect_text, hint_text};
+ghost use Rattle.iw_commands.specs.Printed.{KeepsFront, AppendsTextOf, IsTextOf, answer_text, effect_lines, effect_text, hint_text, plain_text};
 
+use crate::dump_printer::{put_channels, put_iface_report, put_radio_report, put_sections};
 use crate::pieces_printer::{put_labelled, put_number, put_text};
 use crate::refusal_printer::put_refusal;
 use reg_base::Bytes;
@@ -12,9 +13,9 @@ use reg_journal::{Answer, Effect, HintAnswer, Reply};
 use reg_lists::OutOfMemory;
 use std::alloc::Global;
 
-/// The text of the reply: a line, and then one for each effect, each with its newline.
+/// The text of the reply, each line with its newline: a line and then one for each effect, or a dump.
+/// `OutOfMemory` is its one error.
 pub fn reply_text(alloc: Global, reply: &Reply) -> Result<Bytes, OutOfMemory>
-    requires plain { IsPlain reply.now }
     ensures text { IfOk result (IsTextOf reply.now) }
 {
     let mut text = Bytes::new(alloc);
@@ -26,21 +27,27 @@ pub fn reply_text(alloc: Global, reply: &Reply) -> Result<Bytes, OutOfMemory>
 /// may stand behind it.
 #[tactic(auto, using(crate::proofs::Kept::steps))]
 pub fn put_reply(out: &mut Bytes, reply: &Reply) -> Result<(), OutOfMemory>
-    requires plain { IsPlain reply.now }
     ensures text { OnOk result (AppendsTextOf reply.now out.old out.new) }
     ensures kept { KeepsFront out.old out.new }
 {
     match reply {
-        Reply::Plain { answer, effects } => {
-            put_answer(out, answer)?;
-            put_effects(out, effects.as_slice())?;
-            Ok(())
-        }
-        Reply::Regs(_) => unreachable!(),
-        Reply::Channels { .. } => unreachable!(),
-        Reply::Radio(_) => unreachable!(),
-        Reply::Iface(_) => unreachable!(),
+        Reply::Plain { answer, effects } => put_plain(out, answer, effects.as_slice()),
+        Reply::Regs(sections) => put_sections(out, sections.as_slice()),
+        Reply::Channels { list, .. } => put_channels(out, list.as_slice()),
+        Reply::Radio(report) => put_radio_report(out, report),
+        Reply::Iface(report) => put_iface_report(out, report),
     }
+}
+
+/// Appends the line of an answer, and a line for each effect.
+#[tactic(auto, using(crate::proofs::Kept::steps))]
+fn put_plain(out: &mut Bytes, answer: &Answer, effects: &[Effect]) -> Result<(), OutOfMemory>
+    ensures text { OnOk result (out.new ≡ out.old ++ plain_text answer.now effects.now) }
+    ensures kept { KeepsFront out.old out.new }
+{
+    put_answer(out, answer)?;
+    put_effects(out, effects)?;
+    Ok(())
 }
 
 /// Appends the line of an answer.

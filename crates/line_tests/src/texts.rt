@@ -34,7 +34,7 @@ fn says(rt: &impl Abort, alloc: Global, answer: Answer, wanted: &[u8]) {
 
 #[test]
 fn texts_of_answers(rt: HostRuntime) {
-    let answers: [(Answer, &[u8]); 12] = [
+    let answers: [(Answer, &[u8]); 11] = [
         (Answer::Ok, b"ok\n"),
         (
             Answer::Hint(HintAnswer::Treated(Treatment::Already)),
@@ -67,7 +67,6 @@ fn texts_of_answers(rt: HostRuntime) {
             Answer::Refused(Refusal::ElementNotLetters),
             b"refused: element not letters\n",
         ),
-        (Answer::Refused(Refusal::NotBuilt), b"refused: not built\n"),
     ];
     for (answer, wanted) in answers {
         says(&rt, rt.alloc(), answer, wanted);
