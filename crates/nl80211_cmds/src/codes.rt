@@ -45,7 +45,6 @@ fn code_and_errno(refusal: &Refusal) -> (u8, u8)
         Refusal::ElementShort(_) => (51, 22),
         Refusal::ElementOdd(_) => (52, 22),
         Refusal::ElementNotLetters => (53, 22),
-        Refusal::NotBuilt => (54, 95),
     }
 }
 

@@ -58,8 +58,7 @@ fn push_refusal(out: &mut AttrList, refusal: &Refusal) -> Result<(), OutOfMemory
         | Refusal::NotRunning
         | Refusal::TooManyDomains
         | Refusal::NoRules
-        | Refusal::ElementNotLetters
-        | Refusal::NotBuilt => Ok(()),
+        | Refusal::ElementNotLetters => Ok(()),
     }
 }
 

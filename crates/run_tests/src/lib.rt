@@ -12,4 +12,6 @@ mod refusals;
 #[cfg(test)]
 mod scripts;
 #[cfg(test)]
+mod shown;
+#[cfg(test)]
 mod swept;

@@ -3,7 +3,7 @@
 use crate::calls::{Case, RULES};
 
 /// The world, and two countries whose regions differ.
-const REGIONS: &str = "country 00:
+pub const REGIONS: &str = "country 00:
 \t(2402 - 2472 @ 40), (20)
 \t(5170 - 5250 @ 80), (20), NO-IR, AUTO-BW
 \t(5250 - 5330 @ 80), (20), NO-IR, DFS, AUTO-BW
@@ -268,26 +268,34 @@ pub const SWEPT: [Case<'_>; 12] = [
         ],
     },
     Case {
-        name: "what isn't answered yet",
+        name: "powers, custom rules, a driver's hint and removals",
         text: RULES,
         failing: &[],
         faults: 0,
         rows: &[
             (RADIO, "ok\n"),
             (ACCESS_POINT, "ok\n"),
-            ("iw reg get", "refused: not built\n"),
-            ("iw phy phy0 info", "refused: not built\n"),
-            ("iw phy phy0 channels", "refused: not built\n"),
-            ("iw dev ap0 info", "refused: not built\n"),
-            ("iw dev ap0 set type monitor", "refused: not built\n"),
-            ("iw dev ap0 set txpower auto", "refused: not built\n"),
-            ("driver phy0 US", "refused: not built\n"),
+            ("iw reg set US", "hint replaced\n"),
+            ("iw dev ap0 ap start home 5180 100 2", "started 2300\n"),
+            ("iw dev ap0 set type monitor", "refused: busy\n"),
+            (
+                "iw dev ap0 set txpower limit 1500",
+                "ok\n\tpower ap0 1500\n",
+            ),
+            ("iw dev ap0 set txpower fixed 2400", "refused: power 2300\n"),
+            ("iw dev ap0 set txpower auto", "ok\n\tpower ap0 2300\n"),
             (
                 "radio rules phy0 (5150 - 5350 @ 160), (20)",
-                "refused: not built\n",
+                "ok\n\tpower ap0 2000\n",
             ),
-            ("iw dev ap0 del", "refused: not built\n"),
-            ("radio del phy0", "refused: not built\n"),
+            ("driver phy0 US", "hint intersected\n"),
+            ("iw dev ap0 del", "ok\n\tstopped ap0\n"),
+            ("iw dev ap0 info", "refused: no interface ap0\n"),
+            (ACCESS_POINT, "ok\n"),
+            ("iw dev ap0 set type monitor", "ok\n"),
+            ("radio del phy0", "ok\n"),
+            (RADIO, "refused: slot used phy0\n"),
+            ("radio del phy0", "refused: no radio phy0\n"),
         ],
     },
 ];

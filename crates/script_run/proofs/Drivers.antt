@@ -9,7 +9,7 @@ use Rattle.std.proofs.lemmas.Option.{same_Some}
 use Rattle.std.specs.Option.{option_map}
 use Rattle.rule_tables.specs.declared.domain.Domain.{Domain}
 use Rattle.radio_drv.specs.Seen.{Seen}
-use Rattle.reg_core.specs.DriverRows.{AllGoOn, HasFailed, HasOnAir, HasRisen, IsDriven, driven_radio, driver_at}
+use Rattle.reg_books.specs.DriverRows.{AllGoOn, HasFailed, HasOnAir, HasRisen, IsDriven, driven_radio, driver_at}
 use Rattle.reg_core.specs.Kept.{StandsFor}
 use Rattle.reg_core.specs.declared.core_state.Core.{Core}
 use Rattle.reg_journal.specs.Facts.{Journal}

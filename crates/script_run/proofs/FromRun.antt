@@ -11,7 +11,7 @@ use Rattle.rule_tables.specs.declared.domain.Domain.{Domain}
 use Rattle.rule_tables.specs.declared.file_fault.DbFault.{DbFault}
 use Rattle.db_reader.proofs.OneDatabase.{ReadsAs-unique}
 use Rattle.db_reader.proofs.OneFault.{IsDbFault-unique, ReadsAs-no_fault}
-use Rattle.reg_core.specs.DriverRows.{driver_at}
+use Rattle.reg_books.specs.DriverRows.{driver_at}
 use Rattle.db_commands.specs.Status.{EndsWith}
 use Rattle.db_commands.specs.Devices.{AreGood, Devices, HasFault, IsRead, input_limit}
 use Rattle.script_run.specs.Driven.{AreSteady, IsUnsteady}

@@ -4,14 +4,13 @@ use Rattle.rule_tables.specs.declared.domain.Domain.{Domain}
 use Rattle.reg_journal.specs.Facts.{Journal, after}
 use Rattle.reg_journal.specs.Replies.{Steps}
 use Rattle.reg_journal.specs.declared.reply.Reply.{Reply}
-use Rattle.reg_journal.specs.declared.reply.Reply.TheVariants.{Plain, Regs, Channels, Radio, Iface}
 use Rattle.reg_journal.specs.declared.request.Request.{Request}
 use Rattle.reg_journal.proofs.OneReply.{one-reply}
 use Rattle.reg_core.specs.Stepping.{is_failed}
 use Rattle.iw_commands.specs.Printed.{IsTextOf}
 use Rattle.line_forms.specs.declared.fault.LineFault.{LineFault}
 use Rattle.line_forms.proofs.Saying.{one_meaning}
-use Rattle.script_run.specs.Output.{Answers, HaveFailed, IsOutput, LineGives, LinesGive, SayingGives}
+use Rattle.script_run.specs.Output.{HaveFailed, IsOutput, LineGives, LinesGive, SayingGives}
 
 -- ---- one line more
 
@@ -49,11 +48,7 @@ none_failed true None h = absurd h
 none_failed true (Some r) h = absurd cc
 
 one_text : (reply : Reply) (text other : List ℕ) → IsTextOf reply text → IsTextOf reply other → text ≡ other
-one_text (Plain answer effects) text other is is' = is ∙ sym is'
-one_text (Regs list) text other is is' = absurd is
-one_text (Channels r list) text other is is' = absurd is
-one_text (Radio report) text other is is' = absurd is
-one_text (Iface report) text other is is' = absurd is
+one_text reply text other is is' = is ∙ sym is'
 
 one_step : (db : List Domain) (J : Journal) (q : Request) (reply other : Reply) (next next' : Journal)
     → Steps db J q false reply next → Steps db J q false other next' → (reply ≡ other) × (next ≡ next')
@@ -62,12 +57,9 @@ one_step db J q reply other next next' (facts, is, here) (others, is', there) =
     (same.0, here ∙ ap (λ fs. after fs J) same.1 ∙ sym there)
 
 one_answer : (db : List Domain) (J : Journal) (q : Request) (reply other : Reply) (next next' : Journal) → is_failed reply ≡ false → is_failed other ≡ false
-    → Answers db J q reply next → Answers db J q other next' → (reply ≡ other) × (next ≡ next')
-one_answer db J q reply other next next' well well' (inl (built, steps)) (inl (built', steps')) =
+    → Steps db J q (is_failed reply) reply next → Steps db J q (is_failed other) other next' → (reply ≡ other) × (next ≡ next')
+one_answer db J q reply other next next' well well' steps steps' =
     one_step db J q reply other next next' (subst (λ f. Steps db J q f reply next) well steps) (subst (λ f. Steps db J q f other next') well' steps')
-one_answer db J q reply other next next' well well' (inl (built, steps)) (inr (unbuilt, is, stays)) = absurd (unbuilt built)
-one_answer db J q reply other next next' well well' (inr (unbuilt, is, stays)) (inl (built, steps)) = absurd (unbuilt built)
-one_answer db J q reply other next next' well well' (inr (unbuilt, is, stays)) (inr (unbuilt', is', stays')) = (is ∙ sym is', stays ∙ sym stays')
 
 one_saying : (db : List Domain) (J : Journal) (said : Result (Option Request) LineFault) (text other : List ℕ) (next next' : Journal)
     → SayingGives db J said text [] next → SayingGives db J said other [] next' → (text ≡ other) × (next ≡ next')

@@ -2,31 +2,19 @@
 use Rattle.std.proofs.Common.{◌≡◌, ℕ, ◌≤◌, ◌⊎◌, Bool, true, false, List, [], ◌∷◌, ◌++◌, take, Option, Some, None, Result, Ok, Err, inl, inr, IsSomeAnd, OnOk, OnErr, refl, sym, ap, subst, ◌∙◌, append_assoc, append-nil, is_err, arith}
 use Rattle.std.specs.Io.KnownBytes.{Appends}
 use Rattle.rule_tables.specs.declared.domain.Domain.{Domain}
-use Rattle.chan_def.specs.declared.definition.ChanDef.{ChanDef}
 use Rattle.radio_drv.specs.Seen.{Seen}
 use Rattle.reg_base.specs.Appended.{AppendsAtMost, AppendsFront}
 use Rattle.reg_base.specs.Causes.{HasCause, Rose}
-use Rattle.reg_journal.specs.Effects.{effects_of}
-use Rattle.reg_journal.specs.Facts.{Fact, Journal, check_begun, started}
-use Rattle.reg_journal.specs.Permits.{IsLengthOf, IsPowerOf}
-use Rattle.reg_journal.specs.Present.{Iface, named}
-use Rattle.reg_hints.specs.Element.{IsElement}
-use Rattle.reg_hints.specs.declared.element.Element.{Element}
-use Rattle.reg_journal.specs.Replies.{Decides, Gives, Hints, OnNamed, element_hint, Steps, Sweeps}
-use Rattle.reg_journal.specs.declared.refusal.Refusal.{Refusal}
-use Rattle.reg_journal.specs.declared.refusal.Refusal.TheVariants.{NotBuilt}
-use Rattle.reg_journal.specs.declared.reply.Answer.{Answer}
-use Rattle.reg_journal.specs.declared.reply.Answer.TheVariants.{Checking, Refused, Started}
+use Rattle.reg_journal.specs.Facts.{Journal}
 use Rattle.reg_journal.specs.declared.reply.Reply.{Reply}
 use Rattle.reg_journal.specs.declared.reply.Reply.TheVariants.{Plain}
 use Rattle.reg_journal.specs.declared.request.Request.{Request}
-use Rattle.reg_journal.specs.declared.request.Request.TheVariants.{At, RadioAdd, Element as HeardElement, UserHint, Radar, Indoor, IfaceAdd, Start, Stop, Check}
-use Rattle.reg_core.specs.DriverRows.{driven_radio, told_after}
+use Rattle.reg_books.specs.DriverRows.{driven_radio, told_after}
 use Rattle.reg_core.specs.Kept.{StandsFor}
-use Rattle.reg_core.specs.Stepping.{IsBuilt, IsReady, IsStep, is_failed}
+use Rattle.reg_core.specs.Stepping.{OneStep, is_failed}
 use Rattle.reg_core.specs.declared.core_state.Core.{Core}
 use Rattle.line_forms.specs.Lines.{Says}
-use Rattle.iw_commands.specs.Printed.{AppendsTextOf, IsPlain, IsTextOf, line_fault_text}
+use Rattle.iw_commands.specs.Printed.{AppendsTextOf, IsTextOf, line_fault_text, text_of_reply}
 use Rattle.iw_commands.specs.Scripts.{script_lines}
 use Rattle.line_forms.specs.declared.fault.LineFault.{LineFault}
 use Rattle.db_commands.specs.Devices.{StreamAround, HasFault, DriversAround}
@@ -37,62 +25,6 @@ use Rattle.script_run.specs.inner.Turns.{IsRunSoFar, IsTurn}
 use Rattle.script_run.proofs.Drivers.{taken, HaveFailed-of, HaveGoneOn-more, HaveGoneOn-none, HaveGoneOn-step, failed_of}
 use Rattle.script_run.proofs.Scripts.{LinesGive-more}
 use Rattle.script_run.proofs.Told.{told_next}
-
--- ---- replies are plain
-
-plain_of_answer : (reply : Reply) (answer : Answer) (effects : _) → reply ≡ Plain answer effects → IsPlain reply
-plain_of_answer reply answer effects is = subst IsPlain (sym is) tt
-
-plain_decided : (causes : Refusal → Type 0) (granted : Reply → List Fact → Type 0) → ((reply : Reply) (facts : List Fact) → granted reply facts → IsPlain reply)
-    → (reply : Reply) (facts : List Fact) → Decides causes granted reply facts → IsPlain reply
-plain_decided causes granted plain reply facts (inl (e, cause, is, none)) = plain_of_answer reply _ _ is
-plain_decided causes granted plain reply facts (inr (free, given)) = plain reply facts given
-
-plain_on_named : (J : Journal) (name : List ℕ) (granted : Iface → Reply → List Fact → Type 0) → ((x : Iface) (reply : Reply) (facts : List Fact) → granted x reply facts → IsPlain reply)
-    → (reply : Reply) (facts : List Fact) → OnNamed J name granted reply facts → IsPlain reply
-plain_on_named J name granted plain reply facts = on (named J name)
-  where
-    on : (o : Option Iface) → IsSomeAnd o (λ x. granted x reply facts) → IsPlain reply
-    on None h = absurd h
-    on (Some x) h = plain x reply facts h
-
-plain_gives : (answer : Answer) (given : List Fact) (reply : Reply) (facts : List Fact) → Gives answer given reply facts → IsPlain reply
-plain_gives answer given reply facts h = plain_of_answer reply answer [] h.0
-
-plain_sweeps : (db : List Domain) (J : Journal) (answer : Answer) (fact : Fact) (xs : List Iface) (reply : Reply) (facts : List Fact) → Sweeps db J answer fact xs reply facts → IsPlain reply
-plain_sweeps db J answer fact xs reply facts (swept, are, is, all) = plain_of_answer reply answer (effects_of J swept) is
-
-plain_started : (db : List Domain) (J : Journal) (c : ChanDef) (x : Iface) (reply : Reply) (facts : List Fact)
-    → (power : ℕ) × IsPowerOf db J x c power × Gives (Started power) (started x.index c power ∷ []) reply facts → IsPlain reply
-plain_started db J c x reply facts (power, is, given) = plain_gives _ _ reply facts given
-
-plain_checked : (db : List Domain) (J : Journal) (c : ChanDef) (x : Iface) (reply : Reply) (facts : List Fact)
-    → (length : ℕ) × IsLengthOf db J x c length × Gives (Checking length) (check_begun x.index c length ∷ []) reply facts → IsPlain reply
-plain_checked db J c x reply facts (length, is, given) = plain_gives _ _ reply facts given
-
-plain_heard : (db : List Domain) (J : Journal) (r : ℕ) (body : List ℕ) (reply : Reply) (facts : List Fact) → (e : Element) × IsElement body e × Hints db J (element_hint J r e.alpha2) reply facts → IsPlain reply
-plain_heard db J r body reply facts (e, its, hints) = plain_decided _ _ (plain_sweeps db J _ _ _) reply facts hints
-
-plain_reply : (db : List Domain) (J : Journal) (q : Request) (failed : Bool) (reply : Reply) (next : Journal) → IsBuilt db J q → Steps db J q failed reply next → IsPlain reply
-plain_reply db J (At moment) failed reply next built (facts, is, here) = plain_decided _ _ (plain_gives _ _) reply facts is
-plain_reply db J (RadioAdd r profile) failed reply next built (facts, is, here) = plain_decided _ _ (plain_gives _ _) reply facts is
-plain_reply db J (HeardElement r body) failed reply next built (facts, is, here) = plain_decided _ _ (plain_heard db J r body) reply facts is
-plain_reply db J (UserHint a) failed reply next built (facts, is, here) = plain_decided _ _ (plain_sweeps db J _ _ _) reply facts is
-plain_reply db J (Radar r c) failed reply next built (facts, is, here) = plain_decided _ _ (plain_sweeps db J _ _ _) reply facts is
-plain_reply db J (Indoor on) failed reply next built (facts, is, here) = plain_sweeps db J _ _ _ reply facts is
-plain_reply db J (IfaceAdd r name kind) failed reply next built (facts, is, here) = plain_decided _ _ (plain_gives _ _) reply facts is
-plain_reply db J (Start name kind c) failed reply next built (facts, is, here) = plain_decided _ _ (plain_on_named J name _ (plain_started db J c)) reply facts is
-plain_reply db J (Check name c) failed reply next built (facts, is, here) = plain_decided _ _ (plain_on_named J name _ (plain_checked db J c)) reply facts is
-plain_reply db J (Stop name kind) failed reply next built (facts, is, here) = plain_decided _ _ (plain_on_named J name _ (λ x. plain_gives _ _)) reply facts is
-plain_reply db J q failed reply next built steps = absurd built
-
-pub plain_step : (old new : Core) (q : Request) (heard heard' : List (Option Seen)) (reply : Reply) → IsReady old heard
-    → ((db : List Domain) (J : Journal) → StandsFor db old J → IsStep db J q old new heard heard' reply) → IsPlain reply
-plain_step old new q heard heard' reply ready step = on (step ready.db ready.journal ready.stands)
-  where
-    on : IsStep ready.db ready.journal q old new heard heard' reply → IsPlain reply
-    on (inl (built, one)) = plain_reply ready.db ready.journal q _ reply one.next built one.steps
-    on (inr (unbuilt, off)) = plain_of_answer reply _ _ off.reply_is
 
 -- ---- a line that has no request
 
@@ -107,15 +39,12 @@ turn_faulty db J line text fault core heard says is here =
 
 -- ---- a line that asks
 
-not_failed : (reply : Reply) → reply ≡ Plain (Refused NotBuilt) [] → is_failed reply ≡ false
-not_failed reply is = ap is_failed is
-
 pub turn_asked : (db : List Domain) (J : Journal) (line text : List ℕ) (q : Request) (reply : Reply) (old new : Core) (heard heard' : List (Option Seen)) → Says line (Ok (Some q))
-    → IsStep db J q old new heard heard' reply → IsTextOf reply text → IsAt db J old heard → IsTurn db J line text new heard heard'
-turn_asked db J line text q reply old new heard heard' says (inl (built, one)) is here = record {
+    → OneStep db J q old new heard heard' reply → IsTextOf reply text → IsAt db J old heard → IsTurn db J line text new heard heard'
+turn_asked db J line text q reply old new heard heard' says one is here = record {
   failed = failed_of (is_failed reply) (driven_radio J q);
   next = one.next;
-  gives = (Ok (Some q), says, (reply, inl (built, one.steps), is, HaveFailed-of (is_failed reply) (driven_radio J q) _ one.cause));
+  gives = (Ok (Some q), says, (reply, one.steps, is, HaveFailed-of (is_failed reply) (driven_radio J q) _ one.cause));
   there = record { stands = one.stands; driven = one.driven here.driven; follows = one.follows here.follows; told = told_then };
   gone_on = HaveGoneOn-step J q reply (is_failed reply) heard heard' one.drivers one.cause;
 }
@@ -123,14 +52,7 @@ turn_asked db J line text q reply old new heard heard' says (inl (built, one)) i
     told_then : AreTold one.next heard'
     told_then r s within there =
         let (t, before, goes) = taken _ _ (one.drivers r s there) in
-        goes.told ∙ ap (λ k. told_after J q reply r k) (here.told r t within before) ∙ told_next r db J q (is_failed reply) reply one.next here.stands.keeps.due built one.steps
-turn_asked db J line text q reply old new heard heard' says (inr (unbuilt, off)) is here = record {
-  failed = [];
-  next = J;
-  gives = (Ok (Some q), says, (reply, inr (unbuilt, off.reply_is, refl), is, subst (λ f. HaveFailed f (driven_radio J q) []) (sym (not_failed reply off.reply_is)) refl));
-  there = subst (λ h. IsAt db J new h) (sym off.drivers) (subst (λ c. IsAt db J c heard) (sym off.core) here);
-  gone_on = subst (λ h. HaveGoneOn [] heard h) (sym off.drivers) (HaveGoneOn-none heard);
-}
+        goes.told ∙ ap (λ k. told_after J q reply r k) (here.told r t within before) ∙ told_next r db J q (is_failed reply) reply one.next here.stands.keeps.due one.steps
 
 -- ---- lines that were answered
 
@@ -239,27 +161,22 @@ ends_between db script line left output drivers core core' mid so (inr (answer, 
 
 -- ---- what printing leaves
 
-some_text : (reply : Reply) → IsPlain reply → (text : List ℕ) × IsTextOf reply text
-some_text (Plain answer effects) plain = (_, refl)
-some_text reply plain = absurd plain
-
 printed_behind : (reply : Reply) (before text : List ℕ) → before ≡ [] → AppendsTextOf reply before text → IsTextOf reply text
-printed_behind reply before text none (answer, is, all) = subst (IsTextOf reply) (sym (all ∙ ap (λ b. b ++ answer) none)) is
+printed_behind reply before text none all = all ∙ ap (λ b. b ++ text_of_reply reply) none
 
 pub turn_printed : {E : Type 0} (r : Result (Unit {0}) E) (line before text : List ℕ) (q : Request) (reply : Reply) (old new : Core) (heard heard' : List (Option Seen)) → Says line (Ok (Some q))
-    → ((db : List Domain) (J : Journal) → StandsFor db old J → IsStep db J q old new heard heard' reply) → before ≡ [] → OnOk r (AppendsTextOf reply before text)
+    → ((db : List Domain) (J : Journal) → StandsFor db old J → OneStep db J q old new heard heard' reply) → before ≡ [] → OnOk r (AppendsTextOf reply before text)
     → OnOk r ((db : List Domain) (J : Journal) → IsAt db J old heard → IsTurn db J line text new heard heard')
 turn_printed (Ok u) line before text q reply old new heard heard' says step none printed = λ db J here.
     turn_asked db J line text q reply old new heard heard' says (step db J here.stands) (printed_behind reply before text none printed) here
 turn_printed (Err e) line before text q reply old new heard heard' says step none printed = tt
 
 pub turn_unprinted : {E : Type 0} (r : Result (Unit {0}) E) (line : List ℕ) (q : Request) (reply : Reply) (old new : Core) (heard heard' : List (Option Seen)) → Says line (Ok (Some q))
-    → IsReady old heard → ((db : List Domain) (J : Journal) → StandsFor db old J → IsStep db J q old new heard heard' reply)
+    → ((db : List Domain) (J : Journal) → StandsFor db old J → OneStep db J q old new heard heard' reply)
     → OnErr r ((db : List Domain) (J : Journal) → IsAt db J old heard → (heard' ≡ heard) ⊎ ((answer : List ℕ) × IsTurn db J line answer new heard heard'))
-turn_unprinted (Ok u) line q reply old new heard heard' says ready step = tt
-turn_unprinted (Err e) line q reply old new heard heard' says ready step = λ db J here.
-    let (text, is) = some_text reply (plain_step old new q heard heard' reply ready step) in
-    inr (text, turn_asked db J line text q reply old new heard heard' says (step db J here.stands) is here)
+turn_unprinted (Ok u) line q reply old new heard heard' says step = tt
+turn_unprinted (Err e) line q reply old new heard heard' says step = λ db J here.
+    inr (text_of_reply reply, turn_asked db J line (text_of_reply reply) q reply old new heard heard' says (step db J here.stands) refl here)
 
 pub turn_told : {E : Type 0} (r : Result (Unit {0}) E) (line before text : List ℕ) (fault : LineFault) (core : Core) (heard : List (Option Seen)) → Says line (Err fault)
     → before ≡ [] → OnOk r (text ≡ before ++ line_fault_text fault)

@@ -5,7 +5,7 @@ use Rattle.rule_tables.specs.declared.domain.Domain.{Domain}
 use Rattle.radio_drv.specs.Seen.{Seen}
 use Rattle.reg_journal.specs.Facts.{Journal}
 use Rattle.reg_journal.specs.OnAir.{told_of}
-use Rattle.reg_core.specs.DriverRows.{AreDriven, Follows, driver_at}
+use Rattle.reg_books.specs.DriverRows.{AreDriven, Follows, driver_at}
 use Rattle.reg_core.specs.Kept.{StandsFor}
 use Rattle.reg_core.specs.declared.core_state.Core.{Core}
 

@@ -1,41 +1,29 @@
 -- What a script gives: line by line, from the oldest on, what each gives at the journal that the lines before it left.
-use Rattle.std.specs.Prelude.{◌≡◌, ℕ, ◌⊎◌, Bool, true, false, List, [], ◌∷◌, ◌++◌, Option, Some, None, Result, Ok, Err, IsSomeAnd}
+use Rattle.std.specs.Prelude.{◌≡◌, ℕ, Bool, true, false, List, [], ◌∷◌, ◌++◌, Option, Some, None, Result, Ok, Err, IsSomeAnd}
 use Rattle.rule_tables.specs.declared.domain.Domain.{Domain}
 use Rattle.reg_journal.specs.Facts.{Journal}
 use Rattle.reg_journal.specs.Replies.{Steps}
-use Rattle.reg_journal.specs.declared.refusal.Refusal.TheVariants.{NotBuilt}
-use Rattle.reg_journal.specs.declared.reply.Answer.TheVariants.{Refused}
 use Rattle.reg_journal.specs.declared.reply.Reply.{Reply}
-use Rattle.reg_journal.specs.declared.reply.Reply.TheVariants.{Plain}
 use Rattle.reg_journal.specs.declared.request.Request.{Request}
-use Rattle.reg_core.specs.DriverRows.{driven_radio}
-use Rattle.reg_core.specs.Stepping.{IsBuilt, is_failed}
+use Rattle.reg_books.specs.DriverRows.{driven_radio}
+use Rattle.reg_core.specs.Stepping.{is_failed}
 use Rattle.line_forms.specs.Lines.{Says}
 use Rattle.iw_commands.specs.Printed.{IsTextOf, line_fault_text}
 use Rattle.iw_commands.specs.Scripts.{script_lines}
 use Rattle.line_forms.specs.declared.fault.LineFault.{LineFault}
 
--- ---- a request
-
--- The reply to the request at the journal, and the next journal. A request that isn't built yet is refused so, and leaves the
--- journal.
-abbrev pub Answers : List Domain → Journal → Request → Reply → Journal → Type 0
-Answers db J q reply next =
-    (IsBuilt db J q × Steps db J q (is_failed reply) reply next)
-    ⊎ ((IsBuilt db J q → ⊥) × (reply ≡ Plain (Refused NotBuilt) []) × (next ≡ J))
+-- ---- a line
 
 -- these radios' drivers failed: that of the request's radio, or none
 abbrev pub HaveFailed : Bool → Option ℕ → List ℕ → Type 0
 HaveFailed false radio failed = failed ≡ []
 HaveFailed true radio failed = IsSomeAnd radio (λ r. failed ≡ r ∷ [])
 
--- ---- a line
-
 -- What a line that says this gives: its text, the radios whose drivers failed, and the next journal.
 abbrev pub SayingGives : List Domain → Journal → Result (Option Request) LineFault → List ℕ → List ℕ → Journal → Type 0
 SayingGives db J (Ok None) text failed next = (text ≡ []) × (failed ≡ []) × (next ≡ J)
 SayingGives db J (Ok (Some q)) text failed next =
-    (reply : Reply) × Answers db J q reply next × IsTextOf reply text × HaveFailed (is_failed reply) (driven_radio J q) failed
+    (reply : Reply) × Steps db J q (is_failed reply) reply next × IsTextOf reply text × HaveFailed (is_failed reply) (driven_radio J q) failed
 SayingGives db J (Err fault) text failed next = (text ≡ line_fault_text fault) × (failed ≡ []) × (next ≡ J)
 
 -- what a line writes, and the journal behind it: the one reply of its request, the text of its fault, or nothing

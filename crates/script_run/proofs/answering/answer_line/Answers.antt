@@ -1,6 +1,6 @@
 use Rattle.std.proofs.Common.{Ok, subst}
 use Rattle.line_forms.specs.Lines.{Says}
-use Rattle.script_run.proofs.Turning.{plain_step, turn_printed, turn_silent, turn_told, turn_unprinted}
+use Rattle.script_run.proofs.Turning.{turn_printed, turn_silent, turn_told, turn_unprinted}
 use Rattle.script_run.proofs.answering.answer_line.Goals as goal
 
 pub returns-in-Ok-None-clause-answered : goal.returns-in-Ok-None-clause-answered
@@ -15,11 +15,8 @@ returns-in-Ok-clause-answered g c =
 pub returns-in-Ok-clause-stopped : goal.returns-in-Ok-clause-stopped
 returns-in-Ok-clause-stopped g c =
     turn_unprinted _ c.args.line.now _ c.in-Ok.reply _ _ _ _
-    (subst (λ o. Says c.args.line.now (Ok o)) c.in-Ok-Some.field-0-is c.in-Ok-Some.ensures.says) c.requires.ready c.in-Ok.ensures.step
+    (subst (λ o. Says c.args.line.now (Ok o)) c.in-Ok-Some.field-0-is c.in-Ok-Some.ensures.says) c.in-Ok.ensures.step
 
 pub returns-in-Err-Line-clause-answered : goal.returns-in-Err-Line-clause-answered
 returns-in-Err-Line-clause-answered g c =
     turn_told _ c.args.line.now _ _ c.in-Err-Line.fault _ _ (rw c.in-Err-Line.field-0-is at c.in-Err-Line.ensures.says) c.clear.ensures.empty c.put_fault.ensures.text
-
-pub put_reply-requires : goal.put_reply-requires
-put_reply-requires g c = record { plain = plain_step _ _ _ _ _ c.in-Ok.reply c.requires.ready c.in-Ok.ensures.step }
