@@ -10,7 +10,7 @@ use Rattle.chan_def.specs.declared.kind.Kind.{Kind}
 use Rattle.chan_flags.specs.declared.verdict.PowerSetting.TheVariants.{Auto}
 use Rattle.reg_journal.specs.Due.{EachMayFollow}
 use Rattle.reg_journal.specs.Facts.{Journal, made, started, stopped}
-use Rattle.reg_journal.specs.Names.{is_same_name}
+use Rattle.reg_base.specs.Texts.{same_bytes}
 use Rattle.reg_journal.specs.Present.{Iface, new_iface, ifaces_of, ifaces_on, made_of, named}
 use Rattle.core_parts.specs.Kept.{kept, interfaces_of}
 use Rattle.core_parts.specs.Interfaces.{is_on_radio, interface_named, interfaces_on, slot_on, with_operation}
@@ -54,7 +54,7 @@ any_mapped_filter on f n (x ∷ xs) = elim (cases_Bool (on x)) [
 -- ---- look-ups
 
 pub interface_named-kept : (J : Journal) (name : List ℕ) → interface_named (interfaces_of J) name ≡ option_map (kept J) (named J name)
-interface_named-kept J name = find-map (λ (p : Interface). is_same_name p.name name) (kept J) (ifaces_of J)
+interface_named-kept J name = find-map (λ (p : Interface). same_bytes p.name name) (kept J) (ifaces_of J)
 
 pub interfaces_on-kept : (J : Journal) (r : ℕ) → interfaces_on (interfaces_of J) r ≡ map (kept J) (ifaces_on J r)
 interfaces_on-kept J r = filter-map (is_on_radio r) (kept J) (ifaces_of J)

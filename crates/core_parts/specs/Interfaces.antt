@@ -4,11 +4,11 @@ use Rattle.std.specs.Option.{option_map}
 use Rattle.reg_books.specs.Slots.{free_slot}
 use Rattle.core_parts.specs.declared.interface.Interface.{Interface}
 use Rattle.core_parts.specs.declared.interface.Running.{Running}
-use Rattle.reg_journal.specs.Names.{is_same_name}
+use Rattle.reg_base.specs.Texts.{same_bytes}
 
 -- the interface of this name
 abbrev pub interface_named : List Interface → List ℕ → Option Interface
-interface_named interfaces name = find (λ p. is_same_name p.name name) interfaces
+interface_named interfaces name = find (λ p. same_bytes p.name name) interfaces
 
 abbrev pub is_on_radio : ℕ → Interface → Bool
 is_on_radio r p = p.radio == r

@@ -5,7 +5,7 @@ ghost use Rattle.std.specs.List.{list_any};
 ghost use Rattle.std.specs.Option.{option_copied, option_map};
 ghost use Rattle.reg_books.specs.Slots.{numbers};
 ghost use Rattle.core_parts.specs.Interfaces.{is_on_radio, interface_named, interfaces_on, running_with_power, slot_on, with_operation, with_running_power};
-ghost use Rattle.reg_journal.specs.Names.{is_same_name};
+ghost use Rattle.reg_base.specs.Texts.{same_bytes};
 
 use chan_def::{ChanDef, Kind};
 use chan_flags::PowerSetting;
@@ -38,7 +38,7 @@ pub struct Interface {
 impl Interface {
     /// Whether it has the name.
     pub fn has_name(&self, name: &Name) -> bool
-        ensures { result ≡ is_same_name self.now.name name.now }
+        ensures { result ≡ same_bytes self.now.name name.now }
     {
         self.name.is_same(name)
     }

@@ -1,6 +1,6 @@
 //! What is published.
 
-ghost use Rattle.std.specs.Prelude.{◌≡◌, [], List, IfOk, take};
+ghost use Rattle.std.specs.Prelude.{◌≡◌, ◌≤◌, [], List, IfOk, length, take};
 ghost use Rattle.rule_tables.specs.declared.domain.Domain.{Domain};
 ghost use Rattle.reg_journal.specs.Asking.{AreTables, LeadsTo};
 ghost use Rattle.reg_journal.specs.Dumps.{AreSections};
@@ -29,9 +29,9 @@ impl Core {
         ensures number { IfOk result (λ shown. shown.requests ≡ requests) }
         // They are the sections of each journal that the core stands for,
         ensures sections { IfOk result (λ shown. (db : List Domain) (J : Journal) → StandsFor db self.now J → AreSections db J shown.sections) }
-        // and so the tables after that many requests, where these led to such a journal and no driver failed.
+        // and so the tables after that many requests, where there were as many, which led to such a journal, and no driver failed.
         ensures tables { IfOk result (λ shown. (db : List Domain) (qs : List Request) (J : Journal) → StandsFor db self.now J
-            → LeadsTo db [] (take requests qs) J → AreTables db qs requests shown.sections) }
+            → requests ≤ length qs → LeadsTo db [] (take requests qs) J → AreTables db qs requests shown.sections) }
     {
         Ok(Shown {
             requests,

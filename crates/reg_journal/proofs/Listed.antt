@@ -8,7 +8,7 @@ use Rattle.freq_range.proofs.Members.{Contains-later, Contains-cases, Contains-n
 use Rattle.rule_tables.specs.declared.domain.Domain.{Domain}
 use Rattle.reg_journal.specs.Facts.{Journal, made, ended, typed, set_to}
 use Rattle.reg_journal.specs.Present.{Iface, new_iface, with_kind, with_setting, is_apart, ifaces_of, made_of, indexed, named}
-use Rattle.reg_journal.specs.Names.{is_same_name}
+use Rattle.reg_base.specs.Texts.{same_bytes}
 use Rattle.reg_journal.specs.Due.{EachMayFollow}
 use Rattle.reg_journal.proofs.Homes.{home_of, home_found, index-with_kind, index-with_setting, none_next}
 
@@ -75,7 +75,7 @@ Contains-find p (y ∷ xs) x found = elim (cases_Bool (p y)) [
 
 -- one that has the name is there
 pub named_listed : (J : Journal) (name : List ℕ) (x : Iface) → named J name ≡ Some x → Contains (ifaces_of J) x
-named_listed J name x is = Contains-find (λ y. is_same_name y.name name) (ifaces_of J) x is
+named_listed J name x is = Contains-find (λ y. same_bytes y.name name) (ifaces_of J) x is
 
 -- the radio of the interface that a look-up finds
 pub home_of_indexed : (J : Journal) (i : ℕ) (x : Iface) → indexed J i ≡ Some x → home_of J i ≡ Some x.radio

@@ -76,4 +76,4 @@ may_lead db [] J last at = at
 may_lead db (q ∷ qs) J last (reply, next, steps, rest) = (false, reply, next, steps, may_lead db qs next last rest)
 
 pub tables_of_any : (db : List Domain) (qs : List Request) (n : ℕ) (J : Journal) (sections : List Section) → AreTables db qs n sections → MayLeadTo db [] (take n qs) J → AreSections db J sections
-tables_of_any db qs n J sections (K, leads, are) other = same_sections db (take n qs) [] K J sections (may_lead db (take n qs) [] K leads) other are
+tables_of_any db qs n J sections (few, K, leads, are) other = same_sections db (take n qs) [] K J sections (may_lead db (take n qs) [] K leads) other are

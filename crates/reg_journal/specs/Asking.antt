@@ -1,5 +1,5 @@
 -- What is answered without a request: what a start or a check would come to, and the state of a channel; and what is published.
-use Rattle.std.specs.Prelude.{◌≡◌, ℕ, List, [], ◌∷◌, take, Bool, false, Option, None, Some, IsSome, IsSomeAnd, Result, Ok, Err}
+use Rattle.std.specs.Prelude.{◌≡◌, ℕ, ◌≤◌, List, [], ◌∷◌, length, take, Bool, false, Option, None, Some, IsSome, IsSomeAnd, Result, Ok, Err}
 use Rattle.rule_tables.specs.declared.domain.Domain.{Domain}
 use Rattle.chan_def.specs.declared.definition.ChanDef.{ChanDef}
 use Rattle.chan_def.specs.declared.kind.Kind.{Kind}
@@ -49,6 +49,6 @@ abbrev pub MayLeadTo : List Domain → Journal → List Request → Journal → 
 MayLeadTo db J [] last = last ≡ J
 MayLeadTo db J (q ∷ qs) last = (failed : Bool) × (reply : Reply) × (next : Journal) × Steps db J q failed reply next × MayLeadTo db next qs last
 
--- what is published after the first n requests: the sections of the journal to which they led
+-- what is published after the first n requests, of which there are as many: the sections of the journal to which they led
 abbrev pub AreTables : List Domain → List Request → ℕ → List Section → Type 0
-AreTables db qs n sections = (J : Journal) × LeadsTo db [] (take n qs) J × AreSections db J sections
+AreTables db qs n sections = (n ≤ length qs) × (J : Journal) × LeadsTo db [] (take n qs) J × AreSections db J sections

@@ -1,4 +1,3 @@
-pub mod Names
 pub mod Facts
 pub mod Present
 pub mod Applicable

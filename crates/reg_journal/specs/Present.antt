@@ -8,7 +8,7 @@ use Rattle.chan_flags.specs.Profiles.{Abilities, abilities}
 use Rattle.chan_flags.specs.declared.verdict.PowerSetting.{PowerSetting}
 use Rattle.chan_flags.specs.declared.verdict.PowerSetting.TheVariants.{Auto}
 use Rattle.reg_journal.specs.Facts.{Journal, moment_is, radio_added, radio_removed, rules_are, indoor_is, made, ended, typed, set_to, started, stopped, powered, check_begun, check_dropped}
-use Rattle.reg_journal.specs.Names.{is_same_name}
+use Rattle.reg_base.specs.Texts.{same_bytes}
 
 -- ---- limits
 
@@ -116,7 +116,7 @@ radio_of (f ∷ J) i = radio_of J i
 
 -- the interface of this name, if it is there
 abbrev pub named : Journal → List ℕ → Option Iface
-named J name = find (λ x. is_same_name x.name name) (ifaces_of J)
+named J name = find (λ x. same_bytes x.name name) (ifaces_of J)
 
 -- the interface of this index, if it is there
 abbrev pub indexed : Journal → ℕ → Option Iface
