@@ -29,3 +29,4 @@ pub mod KeptPlaces
 pub mod BookNotes
 pub mod Permitted
 pub mod EffectLists
+pub mod ByIndex

@@ -1,6 +1,8 @@
 -- What is asked of the interfaces that are there, and done to them.
-use Rattle.std.specs.Prelude.{ℕ, ◌==◌, Bool, List, map, filter, find, Option, if◌then◌else◌}
+use Rattle.std.specs.Prelude.{◌≢◌, ℕ, ◌==◌, Bool, not, List, map, filter, find, Contains, Option, if◌then◌else◌}
 use Rattle.std.specs.Option.{option_map}
+use Rattle.chan_def.specs.declared.kind.Kind.{Kind}
+use Rattle.chan_flags.specs.declared.verdict.PowerSetting.{PowerSetting}
 use Rattle.reg_books.specs.Slots.{free_slot}
 use Rattle.core_parts.specs.declared.interface.Interface.{Interface}
 use Rattle.core_parts.specs.declared.interface.Running.{Running}
@@ -30,3 +32,19 @@ running_with_power power o = record { chan = o.chan; power_mbm = power }
 
 abbrev pub with_running_power : ℕ → ℕ → Interface → Interface
 with_running_power i power p = if p.index == i then record p { operation = option_map (running_with_power power) p.operation } else p
+
+-- the interface of this index gets the power setting
+abbrev pub with_interface_setting : ℕ → PowerSetting → Interface → Interface
+with_interface_setting i setting p = if p.index == i then record p { setting = setting } else p
+
+-- the interface of this index gets the kind
+abbrev pub with_interface_kind : ℕ → Kind → Interface → Interface
+with_interface_kind i kind p = if p.index == i then record p { kind = kind } else p
+
+-- it isn't the one of this index
+abbrev pub is_other : ℕ → Interface → Bool
+is_other i p = not (p.index == i)
+
+-- none of them is the one of this index
+abbrev pub AreOthers : ℕ → List Interface → Type 0
+AreOthers i interfaces = (p : Interface) → Contains interfaces p → p.index ≢ i

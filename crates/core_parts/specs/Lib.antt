@@ -1,5 +1,6 @@
 pub mod Kept
 pub mod BookCalls
+pub mod ByIndex
 pub mod Changes
 pub mod Contexts
 pub mod Demands

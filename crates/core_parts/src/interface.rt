@@ -4,7 +4,7 @@ ghost use Rattle.std.specs.Prelude.{◌≡◌, ◌&&◌, find, not, ◌==◌, �
 ghost use Rattle.std.specs.List.{list_any};
 ghost use Rattle.std.specs.Option.{option_copied, option_map};
 ghost use Rattle.reg_books.specs.Slots.{numbers};
-ghost use Rattle.core_parts.specs.Interfaces.{is_on_radio, interface_named, interfaces_on, running_with_power, slot_on, with_operation, with_running_power};
+ghost use Rattle.core_parts.specs.Interfaces.{is_on_radio, interface_named, interfaces_on, running_with_power, slot_on};
 ghost use Rattle.reg_base.specs.Texts.{same_bytes};
 
 use chan_def::{ChanDef, Kind};
@@ -12,7 +12,6 @@ use chan_flags::PowerSetting;
 use dfs_states::IfSlot;
 use radio_drv::Name;
 use reg_hints::RadioNo;
-use reg_lists::Seq;
 
 /// An operation.
 #[derive(Clone, Copy, Debug, PartialEq, Eq)]
@@ -49,34 +48,10 @@ impl Interface {
     {
         self.radio.is_same(&radio)
     }
-
-    /// The interface with this operation, or with none, where the index is its own.
-    pub fn with_operation(self, index: u32, operation: Option<Running>) -> Interface
-        ensures { result ≡ with_operation index operation self }
-    {
-        if self.index == index {
-            Interface { operation, ..self }
-        } else {
-            self
-        }
-    }
-
-    /// The interface whose operation, if it has one, goes on with this power, in mBm, where the index is
-    /// its own.
-    fn with_power(self, index: u32, power_mbm: u16) -> Interface
-        ensures { result ≡ with_running_power index power_mbm self }
-    {
-        if self.index == index {
-            let operation = repowered(self.operation, power_mbm);
-            Interface { operation, ..self }
-        } else {
-            self
-        }
-    }
 }
 
 /// The operation, if there is one, with this power, in mBm.
-fn repowered(operation: Option<Running>, power_mbm: u16) -> Option<Running>
+pub(crate) fn repowered(operation: Option<Running>, power_mbm: u16) -> Option<Running>
     ensures { result ≡ option_map (running_with_power power_mbm) operation }
 {
     match operation {
@@ -85,39 +60,6 @@ fn repowered(operation: Option<Running>, power_mbm: u16) -> Option<Running>
             ..operation
         }),
         None => None,
-    }
-}
-
-/// The interfaces that are there, in order of creation.
-pub type InterfaceList = Seq<Interface>;
-
-/// Gives the interface of this index the operation, or none.
-pub fn set_operation(interfaces: &mut InterfaceList, index: u32, operation: Option<Running>)
-    ensures operation { interfaces.new ≡ map (with_operation index operation) interfaces.old }
-{
-    set_each(interfaces.as_mut_slice(), index, operation);
-}
-
-fn set_each(interfaces: &mut [Interface], index: u32, operation: Option<Running>)
-    ensures { interfaces.new ≡ map (with_operation index operation) interfaces.old }
-{
-    for interface in interfaces.iter_mut() {
-        *interface = interface.with_operation(index, operation);
-    }
-}
-
-/// Gives the operation of the interface of this index the power, in mBm.
-pub fn set_power(interfaces: &mut InterfaceList, index: u32, power_mbm: u16)
-    ensures power { interfaces.new ≡ map (with_running_power index power_mbm) interfaces.old }
-{
-    power_each(interfaces.as_mut_slice(), index, power_mbm);
-}
-
-fn power_each(interfaces: &mut [Interface], index: u32, power_mbm: u16)
-    ensures { interfaces.new ≡ map (with_running_power index power_mbm) interfaces.old }
-{
-    for interface in interfaces.iter_mut() {
-        *interface = interface.with_power(index, power_mbm);
     }
 }
 

@@ -9,6 +9,7 @@ mod contexts;
 mod domains;
 mod hinting;
 mod interface;
+mod interface_map;
 mod lookup;
 mod permitting;
 mod radar;
@@ -23,10 +24,8 @@ pub use change::{Change, Changes, add_change, effects_of, no_changes};
 pub use contexts::{channel_of, checked_channel};
 pub use domains::{CustomRules, Domains};
 pub use hinting::{moved_by, new_tables, retune_all};
-pub use interface::{
-    Interface, InterfaceList, Running, count_on, free_slot_on, interface_named, set_operation,
-    set_power,
-};
+pub use interface::{Interface, Running, count_on, free_slot_on, interface_named};
+pub use interface_map::InterfaceMap;
 pub use lookup::with_radio;
 pub use permitting::{check_permit, judge, judge_check, permit, refusal_of};
 pub use radar::Demand;

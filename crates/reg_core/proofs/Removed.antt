@@ -1,8 +1,8 @@
 -- What comes as interfaces and radios go, and what is kept then.
 use Rattle.std.proofs.Common.{◌≡◌, ◌≢◌, ℕ, zero, suc, ◌+◌, ◌*◌, ◌<◌, ◌≤◌, ◌==◌, Bool, true, false, cond, List, [], ◌∷◌, ◌++◌, length, take, drop, set, filter, map, get_or, slice_get, Contains, Option, Some, None, IsSome, append_assoc, append-nil, arith, refl, sym, ap, subst, ◌∙◌, eq-eqb, ne_eqb}
-use Rattle.std.specs.List.{AllWithin, HoldsAt, flat_map}
+use Rattle.std.specs.List.{flat_map}
 use Rattle.std.specs.Option.{option_to_list}
-use Rattle.std.proofs.lemmas.List.{get_or-map, get_or_default, length-append, length-map, map-append, take_all}
+use Rattle.std.proofs.lemmas.List.{length-append, length-map, map-append, take_all}
 use Rattle.std.proofs.lemmas.List.Elements.{filter-append}
 use Rattle.freq_range.proofs.Members.{Contains-head, Contains-later}
 use Rattle.rule_tables.specs.declared.domain.Domain.{Domain}
@@ -14,6 +14,7 @@ use Rattle.reg_journal.specs.Sweep.{released}
 use Rattle.reg_journal.proofs.Few.{few_on}
 use Rattle.reg_journal.proofs.Indexes.{AreApart, LacksIndex, ifaces_apart}
 use Rattle.reg_core.specs.Kept.{Keeps}
+use Rattle.core_parts.specs.Interfaces.{is_other}
 use Rattle.core_parts.specs.Kept.{KeepsRadio, KeepsRadios, interfaces_of, kept}
 use Rattle.core_parts.specs.Changes.{IsInterfaceOf, fact_of, facts_of}
 use Rattle.core_parts.specs.Contexts.{IsOf}
@@ -27,6 +28,7 @@ use Rattle.core_parts.specs.declared.radio.RadioPlace.{RadioPlace}
 use Rattle.core_parts.specs.declared.radio.RadioPlace.TheVariants.{Removed}
 use Rattle.reg_journal.proofs.Radios.{profile_used}
 use Rattle.reg_core.proofs.KeptChanges.{keeps_after}
+use Rattle.core_parts.proofs.KeptInterfaces.{filter-map}
 use Rattle.core_parts.proofs.Taken.{take_got}
 use Rattle.reg_core.proofs.SweepLists.{AreHoused, SparesEach, spares_each}
 use Rattle.reg_core.proofs.SweepPlaces.{option_short}
@@ -34,48 +36,11 @@ use Rattle.core_parts.proofs.Unchanged.{KeepsRadios-at, KeepsRadios-spared}
 
 -- ---- one interface leaves the list
 
-none_filtered : (i : ℕ) (xs : List Iface) → LacksIndex xs i → filter (is_apart i) xs ≡ xs
-none_filtered i [] lacks = refl
-none_filtered i (x ∷ xs) lacks =
-    rw (ne_eqb x.index i (lacks x (Contains-head x xs))) (ap (λ ys. x ∷ ys) (none_filtered i xs (λ y has. lacks y (Contains-later x xs y has))))
-
--- where the one at place k has the index, the others are left
-others_left : (J : Journal) (i : ℕ) (xs : List Iface) (k : ℕ) → AreApart xs → k < length xs → ((x : Iface) → (get_or xs k x).index ≡ i)
-    → take k (map (kept J) xs) ++ drop (suc k) (map (kept J) xs) ≡ map (kept J) (filter (is_apart i) xs)
-others_left J i [] k apart below here = absurd (omega (arith, below))
-others_left J i (x ∷ xs) zero (lacks, apart) below here =
-    rw (eq-eqb x.index i (here x)) (ap (map (kept J)) (sym (none_filtered i xs (λ y has same. lacks y has (same ∙ sym (here x))))))
-others_left J i (x ∷ xs) (suc k) (lacks, apart) below here =
-    let within : k < length xs = omega (arith, below) in
-    let y : Iface = get_or xs k x in
-    let has : Contains xs y = (k, within, get_or_default xs k y x within) in
-    rw (ne_eqb x.index i (λ same. lacks y has (here x ∙ sym same))) (ap (λ ps. kept J x ∷ ps) (others_left J i xs k apart within here))
-
-pub keeps_after_end : (db : List Domain) (J : Journal) (i k : ℕ) (core : Core) (seen interfaces : List Interface) → seen ≡ core.interfaces → Keeps db core J
-    → EachMayFollow db (ended i ∷ J) → (k < length seen) × HoldsAt (λ (p : Interface). p.index ≡ i) seen k
-    → interfaces ≡ take k core.interfaces ++ drop (k + 1) core.interfaces → Keeps db (record core { interfaces = interfaces }) (ended i ∷ J)
-keeps_after_end db J i k core seen interfaces same s due (below, here) are =
+pub keeps_after_end : (db : List Domain) (J : Journal) (i : ℕ) (core : Core) (interfaces : List Interface) → Keeps db core J
+    → EachMayFollow db (ended i ∷ J) → interfaces ≡ filter (is_other i) core.interfaces → Keeps db (record core { interfaces = interfaces }) (ended i ∷ J)
+keeps_after_end db J i core interfaces s due are =
     keeps_after db J (ended i) core interfaces core.radios tt s due (KeepsRadios-spared db J (ended i) core.radios (λ r. tt) s.radios)
-    (are ∙ ap (λ n. take k core.interfaces ++ drop n core.interfaces) next ∙ ap (λ ps. take k ps ++ drop (suc k) ps) s.interfaces ∙ others_left J i (ifaces_of J) k (ifaces_apart db J s.due) within at_place)
-  where
-    next : k + 1 ≡ suc k
-    next = omega arith
-
-    within : k < length (ifaces_of J)
-    within = let len = ap (λ (ps : List Interface). length ps) (same ∙ s.interfaces) ∙ length-map (ifaces_of J) (kept J) in omega (arith, len, below)
-
-    at_place : (x : Iface) → (get_or (ifaces_of J) k x).index ≡ i
-    at_place x =
-        ap (λ (p : Interface). p.index) (sym (get_or-map (kept J) (ifaces_of J) k x (kept J x) within) ∙ sym (ap (λ ps. get_or ps k (kept J x)) (same ∙ s.interfaces))) ∙ here (kept J x)
-
--- one that is there has a place
-pub never_placeless : (db : List Domain) (J : Journal) (x : Iface) (p : Interface) (core : Core) (seen : List Interface) → seen ≡ core.interfaces → Keeps db core J → IsInterfaceOf J x p
-    → AllWithin (λ (q : Interface). q.index ≢ p.index) seen 0 (length seen) → ⊥
-never_placeless db J x p core seen same s is none =
-    let (k, within, here) = is.there in
-    let len = ap (λ (ps : List Interface). length ps) (same ∙ s.interfaces) ∙ length-map (ifaces_of J) (kept J) in
-    none k (kept J x) (omega arith) (omega (arith, len, within))
-    (ap (λ (q : Interface). q.index) (ap (λ ps. get_or ps k (kept J x)) (same ∙ s.interfaces) ∙ get_or-map (kept J) (ifaces_of J) k x (kept J x) within ∙ ap (kept J) here) ∙ sym is.index)
+    (are ∙ ap (filter (is_other i)) s.interfaces ∙ filter-map (is_other i) (kept J) (ifaces_of J))
 
 -- ---- a radio leaves its place
 

@@ -21,10 +21,11 @@ use Rattle.reg_journal.proofs.PowersGo.{setting_here}
 use Rattle.reg_journal.proofs.Regular.{is_none}
 use Rattle.reg_journal.proofs.Swept.{permitted_power_fits}
 use Rattle.reg_core.specs.Kept.{Keeps, StandsFor}
+use Rattle.core_parts.specs.Interfaces.{with_interface_kind, with_interface_setting}
 use Rattle.core_parts.specs.Kept.{interfaces_of, kept, kept_operation}
 use Rattle.core_parts.specs.Changes.{IsInterfaceOf}
 use Rattle.core_parts.specs.Repowering.{repowered}
-use Rattle.reg_core.specs.inner.Settings.{MaySet, Retypes, with_interface_kind, with_interface_setting}
+use Rattle.reg_core.specs.inner.Settings.{MaySet, Retypes}
 use Rattle.core_parts.specs.declared.change.Change.TheVariants.{Powered}
 use Rattle.reg_core.specs.declared.core_state.Core.{Core}
 use Rattle.core_parts.specs.declared.interface.Interface.{Interface}

@@ -12,9 +12,7 @@ ghost use Rattle.core_parts.specs.Operating.{TellsRunning, book_operation};
 
 use crate::core_state::Core;
 use crate::drivers::DriverRow;
-use core_parts::{
-    BookCall, Change, Interface, RadioPlace, Running, note_at, set_operation, set_power,
-};
+use core_parts::{BookCall, Change, Interface, RadioPlace, Running, note_at};
 use dfs_states::IfSlot;
 use radio_drv::IfIndex;
 
@@ -51,7 +49,7 @@ impl Core {
             → TellsRunning f x.index operation → EachMayFollow db (f ∷ J) → Keeps db self.new (f ∷ J) }
     {
         operate_at(&mut self.radios, interface, &operation);
-        set_operation(&mut self.interfaces, interface.index, operation);
+        self.interfaces.set_operation(interface.index, operation);
     }
 
     /// The interface's operation goes on with this power, in mBm.
@@ -59,7 +57,7 @@ impl Core {
         ensures kept { (db : List Domain) (J : Journal) (x : Iface) → Keeps db self.old J → IsInterfaceOf J x interface.now
             → EachMayFollow db (powered interface.now.index power_mbm ∷ J) → Keeps db self.new (powered interface.now.index power_mbm ∷ J) }
     {
-        set_power(&mut self.interfaces, interface.index, power_mbm);
+        self.interfaces.set_power(interface.index, power_mbm);
     }
 
     /// The interface's check is dropped.

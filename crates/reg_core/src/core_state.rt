@@ -1,6 +1,6 @@
 //! What the core keeps.
 
-use core_parts::{Domains, InterfaceList, RadioPlace};
+use core_parts::{Domains, InterfaceMap, RadioPlace};
 use reg_hints::Hints;
 use rule_intersect::Table;
 
@@ -18,6 +18,6 @@ pub struct Core {
     pub(crate) global: Table,
     /// By number.
     pub(crate) radios: [RadioPlace; 8],
-    /// In order of creation.
-    pub(crate) interfaces: InterfaceList,
+    /// By index, in order of creation.
+    pub(crate) interfaces: InterfaceMap,
 }

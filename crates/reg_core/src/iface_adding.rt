@@ -71,7 +71,7 @@ impl Core {
             setting: PowerSetting::Auto,
             operation: None,
         };
-        self.interfaces.push(interface)?;
+        self.interfaces.add(interface)?;
         self.made = index;
         Ok(())
     }

@@ -1,7 +1,6 @@
 //! Interfaces that go.
 
-ghost use Rattle.std.specs.Prelude.{◌≡◌, ◌≢◌, ◌<◌, ◌+◌, ◌∷◌, [], List, None, MatchOption, MatchResult, IsSomeAnd, OnErr, length};
-ghost use Rattle.std.specs.List.{AllWithin, HoldsAt};
+ghost use Rattle.std.specs.Prelude.{◌≡◌, ◌<◌, ◌+◌, ◌∷◌, [], List, None, MatchResult, IsSomeAnd, OnErr, length};
 ghost use Rattle.rule_tables.specs.declared.domain.Domain.{Domain};
 ghost use Rattle.reg_journal.specs.declared.effects.TheConstants.{MOST_EFFECTS};
 ghost use Rattle.reg_journal.specs.Due.{EachMayFollow};
@@ -53,25 +52,13 @@ pub(crate) fn add_end(changes: &mut Changes, interface: &Interface, book: &DfsBo
     add_change(changes, Some(Change::Ended(*interface)));
 }
 
-/// The place of the interface of this index.
-fn place_of(interfaces: &[Interface], index: u32) -> Option<usize>
-    ensures { MatchOption result (AllWithin (λ p. p.index ≢ index) interfaces.now 0 (length interfaces.now))
-        (λ k. (k < length interfaces.now) × HoldsAt (λ p. p.index ≡ index) interfaces.now k) }
-{
-    interfaces
-        .iter()
-        .position(|interface| interface.index == index)
-}
-
 impl Core {
     /// The interface goes.
     pub(crate) fn end_iface(&mut self, interface: &Interface)
         ensures kept { (db : List Domain) (J : Journal) (x : Iface) → Keeps db self.old J → IsInterfaceOf J x interface.now
             → EachMayFollow db (ended interface.now.index ∷ J) → Keeps db self.new (ended interface.now.index ∷ J) }
     {
-        if let Some(place) = place_of(self.interfaces.as_slice(), interface.index) {
-            let _gone = self.interfaces.remove(place);
-        }
+        self.interfaces.remove(interface.index);
     }
 
     /// What comes as the interface of this name ends.

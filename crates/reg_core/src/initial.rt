@@ -6,7 +6,7 @@ ghost use Rattle.core_parts.specs.Kept.{KeepsRadios};
 ghost use Rattle.reg_core.specs.Kept.{StandsFor};
 
 use crate::core_state::Core;
-use core_parts::{Domains, InterfaceList, RadioPlace, initial_table};
+use core_parts::{Domains, InterfaceMap, RadioPlace, initial_table};
 use reg_hints::Hints;
 use reg_lists::OutOfMemory;
 use rule_tables::Db;
@@ -45,7 +45,7 @@ impl Core {
             made: 0,
             global,
             radios: no_radios(),
-            interfaces: InterfaceList::new(alloc),
+            interfaces: InterfaceMap::new(alloc),
         })
     }
 }

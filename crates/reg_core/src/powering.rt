@@ -1,6 +1,6 @@
 //! Power settings of interfaces.
 
-ghost use Rattle.std.specs.Prelude.{◌≡◌, ◌∷◌, List, MatchResult, OnErr, map};
+ghost use Rattle.std.specs.Prelude.{◌≡◌, ◌∷◌, List, MatchResult, OnErr};
 ghost use Rattle.rule_tables.specs.declared.domain.Domain.{Domain};
 ghost use Rattle.chan_def.specs.Covered.{IsValidDef};
 ghost use Rattle.reg_journal.specs.Due.{EachMayFollow};
@@ -13,47 +13,17 @@ ghost use Rattle.reg_core.specs.Kept.{Keeps, StandsFor};
 ghost use Rattle.reg_core.specs.Stepping.{IsReady};
 ghost use Rattle.reg_core.specs.inner.Deciding.{IsCore};
 ghost use Rattle.core_parts.specs.Judging.{IsSwept};
-ghost use Rattle.reg_core.specs.inner.Settings.{MaySet, SetsPowerOf, with_interface_setting};
+ghost use Rattle.reg_core.specs.inner.Settings.{MaySet, SetsPowerOf};
 
 use crate::core_state::Core;
 use crate::drivers::DriverRow;
 use crate::sweep::repowered;
 use chan_flags::PowerSetting;
 use core_parts::{
-    Change, Interface, InterfaceList, Radio, Running, add_change, effects_of, no_changes, permit,
-    with_radio,
+    Change, Interface, Radio, Running, add_change, effects_of, no_changes, permit, with_radio,
 };
 use radio_drv::Name;
 use reg_journal::{Effects, Refusal};
-
-/// The interface with this power setting, where the index is its own.
-fn with_power_setting(interface: Interface, index: u32, setting: PowerSetting) -> Interface
-    ensures { result ≡ with_interface_setting index setting interface }
-{
-    if interface.index == index {
-        Interface {
-            setting,
-            ..interface
-        }
-    } else {
-        interface
-    }
-}
-
-fn set_each(interfaces: &mut [Interface], index: u32, setting: PowerSetting)
-    ensures { interfaces.new ≡ map (with_interface_setting index setting) interfaces.old }
-{
-    for interface in interfaces.iter_mut() {
-        *interface = with_power_setting(*interface, index, setting);
-    }
-}
-
-/// Gives the interface of this index the power setting.
-fn set_setting(interfaces: &mut InterfaceList, index: u32, setting: PowerSetting)
-    ensures setting { interfaces.new ≡ map (with_interface_setting index setting) interfaces.old }
-{
-    set_each(interfaces.as_mut_slice(), index, setting);
-}
 
 /// The power in mBm with which the interface's operation may go on with the setting, or what ends it.
 fn power_with(
@@ -98,7 +68,7 @@ impl Core {
         ensures kept { (db : List Domain) (J : Journal) → Keeps db self.old J → EachMayFollow db (set_to index setting ∷ J)
             → Keeps db self.new (set_to index setting ∷ J) }
     {
-        set_setting(&mut self.interfaces, index, setting);
+        self.interfaces.set_setting(index, setting);
     }
 
     /// The interface of this name gets the power setting (`NL80211_ATTR_WIPHY_TX_POWER_SETTING`). Its

@@ -1,46 +1,20 @@
 //! Interfaces that get another type.
 
-ghost use Rattle.std.specs.Prelude.{◌≡◌, ◌∷◌, List, MatchResult, IsSomeAnd, map};
+ghost use Rattle.std.specs.Prelude.{◌≡◌, ◌∷◌, List, MatchResult, IsSomeAnd};
 ghost use Rattle.rule_tables.specs.declared.domain.Domain.{Domain};
 ghost use Rattle.reg_journal.specs.Due.{EachMayFollow};
 ghost use Rattle.reg_journal.specs.Facts.{Journal, typed};
 ghost use Rattle.reg_journal.specs.Present.{named};
 ghost use Rattle.reg_journal.specs.Refusals.{IsInUse, SetTypeCauses};
 ghost use Rattle.reg_core.specs.Kept.{Keeps};
-ghost use Rattle.reg_core.specs.inner.Settings.{IsRetyping, with_interface_kind};
+ghost use Rattle.reg_core.specs.inner.Settings.{IsRetyping};
 
 use crate::core_state::Core;
 use crate::forecast::is_used;
 use chan_def::Kind;
-use core_parts::{Interface, InterfaceList, with_radio};
+use core_parts::with_radio;
 use radio_drv::Name;
 use reg_journal::Refusal;
-
-/// The interface with this kind, where the index is its own.
-fn with_kind(interface: Interface, index: u32, kind: Kind) -> Interface
-    ensures { result ≡ with_interface_kind index kind interface }
-{
-    if interface.index == index {
-        Interface { kind, ..interface }
-    } else {
-        interface
-    }
-}
-
-fn type_each(interfaces: &mut [Interface], index: u32, kind: Kind)
-    ensures { interfaces.new ≡ map (with_interface_kind index kind) interfaces.old }
-{
-    for interface in interfaces.iter_mut() {
-        *interface = with_kind(*interface, index, kind);
-    }
-}
-
-/// Gives the interface of this index the kind.
-fn set_kind(interfaces: &mut InterfaceList, index: u32, kind: Kind)
-    ensures kind { interfaces.new ≡ map (with_interface_kind index kind) interfaces.old }
-{
-    type_each(interfaces.as_mut_slice(), index, kind);
-}
 
 impl Core {
     /// The index of the interface of this name, where it has neither an operation nor a running check.
@@ -63,7 +37,7 @@ impl Core {
         ensures kept { (db : List Domain) (J : Journal) → Keeps db self.old J → EachMayFollow db (typed index kind ∷ J)
             → Keeps db self.new (typed index kind ∷ J) }
     {
-        set_kind(&mut self.interfaces, index, kind);
+        self.interfaces.set_kind(index, kind);
     }
 
     /// The interface of this name gets another type (`NL80211_CMD_SET_INTERFACE`).

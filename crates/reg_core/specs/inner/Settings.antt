@@ -1,5 +1,5 @@
 -- What comes of a new type or a new power setting of an interface.
-use Rattle.std.specs.Prelude.{◌≡◌, ◌≢◌, ℕ, ◌==◌, ◌⊎◌, List, ◌∷◌, Option, None, Some, MatchOption, Result, Ok, Err, if◌then◌else◌}
+use Rattle.std.specs.Prelude.{◌≡◌, ◌≢◌, ℕ, ◌⊎◌, List, ◌∷◌, Option, None, Some, MatchOption, Result, Ok, Err}
 use Rattle.std.specs.List.{filter_map}
 use Rattle.std.specs.Option.{option_to_list}
 use Rattle.rule_tables.specs.declared.domain.Domain.{Domain}
@@ -23,10 +23,6 @@ use Rattle.core_parts.specs.declared.interface.Interface.{Interface}
 
 -- ---- types
 
--- the interface of this index gets the kind
-abbrev pub with_interface_kind : ℕ → Kind → Interface → Interface
-with_interface_kind i kind p = if p.index == i then record p { kind = kind } else p
-
 -- the interface gets another type
 pub record Retypes (db : List Domain) (J : Journal) (name : List ℕ) (kind : Kind) (new : Core) : Type 0 where
   pub iface : Iface
@@ -39,10 +35,6 @@ IsRetyping db J name kind old new (Ok x) = Retypes db J name kind new
 IsRetyping db J name kind old new (Err e) = SetTypeCauses J name e × (new ≡ old)
 
 -- ---- power settings
-
--- the interface of this index gets the power setting
-abbrev pub with_interface_setting : ℕ → PowerSetting → Interface → Interface
-with_interface_setting i setting p = if p.index == i then record p { setting = setting } else p
 
 -- What becomes of the operation with the setting: it goes on with the power that the setting gives, which may be the one that it has.
 abbrev pub Repowers : List Domain → Journal → Iface → PowerSetting → Option Change → Type 0

@@ -1,6 +1,0 @@
-use Rattle.std.proofs.Common.{◌≡◌, ◌++◌, map, take, drop}
-use Rattle.reg_core.specs.inner.Settings.{with_interface_kind}
-use Rattle.reg_core.proofs.retyping.type_each.Given as goal
-
-abbrev pub invariant-loop-interface : goal.invariant-loop-interface
-invariant-loop-interface l = l.interfaces ≡ map (with_interface_kind l.index l.kind) (take l.interface-index l.initial.interfaces) ++ drop l.interface-index l.initial.interfaces
