@@ -11,7 +11,11 @@ use Rattle.std.proofs.lemmas.List.Splits.{slice_split_at, slice_split_none}
 use Rattle.std.proofs.lemmas.List.Sums.{AllPass-from_list_all}
 use Rattle.line_forms.specs.Lines.{IsLineByte}
 use Rattle.line_forms.specs.Words.{is_empty, is_line_blank, words_of}
-use Rattle.line_printing.specs.Printed.{joined}
+
+-- words parted by one blank
+abbrev pub joined : List (List ℕ) → List ℕ
+joined [] = []
+joined (word ∷ words) = word ++ flat_map (λ next. 32 ∷ next) words
 
 -- the byte shows in ASCII
 abbrev pub shows : ℕ → Bool

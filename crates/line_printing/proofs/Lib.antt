@@ -1,5 +1,6 @@
 pub mod JoinedWords
 pub mod TidyTexts
+pub mod SlotLines
 pub mod SlotTexts
 pub mod SlotWalks
 pub mod ToldParts

@@ -1,10 +1,13 @@
--- The numbers of a line's rules fit their fields.
+-- What the rules of a line are: their numbers fit their fields, and they carry neither a check time nor a WMM rule.
 use Rattle.std.proofs.Common.{◌≡◌, ℕ, ◌-◌, ◌^◌, ◌<◌, ◌≤◌, List, length, All, None, arith}
-use Rattle.std.proofs.lemmas.List.Elements.{All-weaker}
+use Rattle.std.proofs.lemmas.List.Elements.{All-nil, All-weaker}
 use Rattle.freq_range.specs.Valid.{IsValidRule}
 use Rattle.freq_range.specs.declared.rule.Rule.{Rule}
-use Rattle.reg_journal.specs.Forms.{AreLineRules}
+use Rattle.reg_journal.specs.Forms.{AreLineRules, IsLineRequest}
 use Rattle.reg_journal.specs.Requests.{FitsRuleFields}
+use Rattle.reg_journal.specs.declared.request.Request.{Request}
+use Rattle.reg_journal.specs.declared.request.Request.TheVariants.{RadioRules as AskRadioRules}
+use Rattle.line_printing.specs.Printed.{IsPlainLineRule, rules_of}
 
 fits : (rule : Rule) → IsValidRule rule × (rule.cac_s ≡ 0) × (rule.wmm ≡ None) → FitsRuleFields rule
 fits rule is =
@@ -15,3 +18,10 @@ fits rule is =
 
 pub fit_fields : (rules : List Rule) → AreLineRules rules → All FitsRuleFields rules
 fit_fields rules are = All-weaker (λ rule. IsValidRule rule × (rule.cac_s ≡ 0) × (rule.wmm ≡ None)) FitsRuleFields fits rules are.2
+
+plain : (rule : Rule) → IsValidRule rule × (rule.cac_s ≡ 0) × (rule.wmm ≡ None) → IsPlainLineRule rule
+plain rule is = (is.1, is.2)
+
+pub plain_rules : (q : Request) → IsLineRequest q → All IsPlainLineRule (rules_of q)
+plain_rules (AskRadioRules r rules) line = All-weaker (λ rule. IsValidRule rule × (rule.cac_s ≡ 0) × (rule.wmm ≡ None)) IsPlainLineRule plain rules line.2
+plain_rules q line = All-nil IsPlainLineRule

@@ -265,10 +265,15 @@ fills rules t d ChannelNo has told behind is = absurd cc
 fills rules t d WordForm has told behind is = (noht d.chan.control_khz, without-ht d.chan.control_khz (behind is), refl)
 fills rules t d Twenty has told behind is = (twenty d.chan, (refl, refl), refl)
 fills rules t d Wide has told behind is = (as_wide (with_ht t.chan.width) d.chan, (with_ht t.chan.width, wide-again t.chan.width, refl), refl)
-fills rules t d Centre has told behind is =
-    (record { control_khz = d.chan.control_khz; width = d.chan.width; centre_khz = t.chan.centre_khz },
-      (t.chan.centre_khz / 1000, mhz-again t.chan.centre_khz told.centre,
-        ap (λ khz. record { control_khz = d.chan.control_khz; width = d.chan.width; centre_khz = khz }) (sym (whole-mhz t.chan.centre_khz told.centre))), refl)
+fills rules t d Centre has told behind is = (
+  record { control_khz = d.chan.control_khz; width = d.chan.width; centre_khz = t.chan.centre_khz },
+  (
+    t.chan.centre_khz / 1000,
+    mhz-again t.chan.centre_khz told.centre,
+    ap (λ khz. record { control_khz = d.chan.control_khz; width = d.chan.width; centre_khz = khz }) (sym (whole-mhz t.chan.centre_khz told.centre)),
+  ),
+  refl,
+)
 fills rules t d Name has told behind is = (told.name, refl)
 fills rules t d OfKind has told behind is = (t.kind, kind-again t.kind, refl)
 fills rules t d Power has told behind is =
@@ -309,6 +314,8 @@ pub walked : (rules : List Rule) (t d : Told) (slots : List Slot) (has : Bool) �
     → Leads (map (text_at rules t) slots) slots d [] (tell_all t slots d)
 walked rules t d [] has told behind is = (refl, refl)
 walked rules t d (s ∷ slots) has told behind is =
-    let parts = and_parts (may_stand has s) (are_printed (has_after has s) slots) is in
-    (tell t s d, fills rules t d s has told behind parts.0,
-      walked rules t (tell t s d) slots (has_after has s) told (kept-control t d s has told behind) parts.1)
+    let parts = and_parts (may_stand has s) (are_printed (has_after has s) slots) is in (
+      tell t s d,
+      fills rules t d s has told behind parts.0,
+      walked rules t (tell t s d) slots (has_after has s) told (kept-control t d s has told behind) parts.1,
+    )

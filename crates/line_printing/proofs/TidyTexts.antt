@@ -4,8 +4,7 @@ use Rattle.std.specs.Prelude.{codes, nat_le, ◌==◌, cond}
 use Rattle.std.specs.List.{flat_map, list_all}
 use Rattle.std.proofs.lemmas.Bool.{and_parts, cases_eq, eq-eqb, ne_eqb}
 use Rattle.std.proofs.lemmas.Bool.Decides.{nat_tests}
-use Rattle.line_printing.specs.Printed.{joined}
-use Rattle.line_printing.proofs.JoinedWords.{AreSolid, IsSolid, both, shows}
+use Rattle.line_printing.proofs.JoinedWords.{AreSolid, IsSolid, both, joined, shows}
 
 -- Behind a blank, or not: each blank stands between bytes that show.
 abbrev pub is_tidy : Bool → List ℕ → Bool

@@ -1,5 +1,5 @@
 -- How the line of a request is printed: the slots of one of the forms, each with the one word that is printed there.
-use Rattle.std.specs.Prelude.{◌≡◌, ℕ, ◌+◌, ◌/◌, ◌%◌, ◌==◌, nat_le, cond, map, Bool, true, false, List, [], ◌∷◌, ◌++◌, None, codes, decimal, if◌then◌else◌}
+use Rattle.std.specs.Prelude.{◌≡◌, ℕ, ◌+◌, ◌/◌, ◌%◌, ◌==◌, nat_le, cond, Bool, true, false, List, [], ◌∷◌, ◌++◌, None, codes, decimal, if◌then◌else◌}
 use Rattle.std.specs.List.{flat_map}
 use Rattle.freq_range.specs.declared.rule.Rule.{Rule}
 use Rattle.chan_def.specs.Covered.{width_khz}
@@ -181,11 +181,11 @@ text_at rules t Ssid = codes "net"
 text_at rules t Interval = codes "100"
 text_at rules t Dtim = codes "2"
 
--- words parted by one blank
-abbrev pub joined : List (List ℕ) → List ℕ
-joined [] = []
-joined (word ∷ words) = word ++ flat_map (λ next. 32 ∷ next) words
+-- the words at the slots, parted by one blank
+abbrev pub words_at : List Rule → Told → List Slot → List ℕ
+words_at rules t [] = []
+words_at rules t (first ∷ slots) = text_at rules t first ++ flat_map (λ slot. 32 ∷ text_at rules t slot) slots
 
 -- The line that is printed for the request.
 abbrev pub line_text : Request → List ℕ
-line_text q = joined (map (text_at (rules_of q) (told_of q)) (slots (form_of q)))
+line_text q = words_at (rules_of q) (told_of q) (slots (form_of q))
