@@ -22,7 +22,7 @@ use Rattle.line_forms.specs.declared.fault.LineFault.{LineFault}
 use Rattle.line_forms.specs.declared.slot.Slot.{Slot}
 use Rattle.line_forms.specs.declared.slot.Slot.TheVariants.{Fixed, Rules, ChannelNo, WordForm}
 use Rattle.line_forms.proofs.Saying.{one_meaning}
-use Rattle.line_printing.specs.Printed.{form_of, line_text, rules_line, rules_of, text_at, told_of}
+use Rattle.line_printing.specs.Printed.{form_of, line_text, rules_line, printed_rules_of, text_at, line_told}
 use Rattle.line_printing.proofs.JoinedWords.{AreSolid, IsSolid, joined, joined-bytes, shows, words-again}
 use Rattle.line_printing.proofs.RequestsAgain.{GivesNoRules, IsPrintedBy, asked-again, can-tell, printed-by}
 use Rattle.line_printing.proofs.RuleLines.{append-none, prints-rules}
@@ -121,8 +121,8 @@ rules-ask r rules typed line =
 
 without-rules : (q : Request) → GivesNoRules q → IsTyped q → IsLineRequest q → Asks (line_text q) q
 without-rules q plain typed line =
-    subst (λ l. Asks l q) (sym (slots_joined (rules_of q) (told_of q) (slots (form_of q))))
-    (row-asks (rules_of q) (told_of q) (slots (form_of q)) q (can-tell q typed line) (printed-by q plain typed line).printed (asked-again q plain typed line))
+    subst (λ l. Asks l q) (sym (slots_joined (printed_rules_of q) (line_told q) (slots (form_of q))))
+    (row-asks (printed_rules_of q) (line_told q) (slots (form_of q)) q (can-tell q typed line) (printed-by q plain typed line).printed (asked-again q plain typed line))
 
 pub printed-line-asks : (q : Request) → IsTyped q → IsLineRequest q → Asks (line_text q) q
 printed-line-asks (AskAt moment) typed line = without-rules (AskAt moment) tt typed line

@@ -29,7 +29,7 @@ use Rattle.line_forms.specs.declared.form.Freq.TheVariants.{Alone, ByWord, Twent
 use Rattle.line_forms.specs.declared.slot.Slot.{Slot}
 use Rattle.line_forms.specs.declared.form.Form.{Form}
 use Rattle.line_forms.specs.declared.form.Form.TheVariants.{RadioAdd, Radar, SetFreq, CheckFreq, ApStart, IbssJoin, MeshJoin}
-use Rattle.line_printing.specs.Printed.{extra_of, form_of, freq_by, freq_of, hex_digit, hex_pair, hex_text, rules_of, setting_told, start_form, stop_form, text_at, told_of, untold}
+use Rattle.line_printing.specs.Printed.{extra_of, form_of, freq_by, freq_of, hex_digit, hex_pair, hex_text, printed_rules_of, setting_told, start_form, stop_form, text_at, line_told, untold}
 use Rattle.line_printing.proofs.SlotWalks.{are_printed, begins_word, is_row, room, tell_all, walked, with_ht}
 use Rattle.line_printing.proofs.ToldParts.{IsTold, is-untold, told-chan, told-code, told-digits, told-kind, told-moment, told-name, told-power, told-profile, told-radio}
 
@@ -88,7 +88,7 @@ start-channel name Mesh c line = line
 start-channel name Station c line = line.0
 start-channel name Monitor c line = line
 
-pub can-tell : (q : Request) → IsTyped q → IsLineRequest q → IsTold (told_of q)
+pub can-tell : (q : Request) → IsTyped q → IsLineRequest q → IsTold (line_told q)
 can-tell (AskAt moment) typed line = told-moment moment untold typed is-untold
 can-tell (AskRadioAdd r p) typed line = told-profile p (tell_radio r untold) typed.1 (on-radio r typed.0)
 can-tell (AskRadioDel r) typed line = on-radio r typed
@@ -139,37 +139,37 @@ pub record IsPrintedBy (form : Form) (t : Told) (q : Request) : Type 0 where
   pub printed : is_row (slots form) ≡ true
   pub asked : request_of form (tell_all t (slots form) nothing) ≡ q
 
-by_radar : (f : Freq) (r : ℕ) (c : ChanDef) → channel_by f c ≡ c → IsPrintedBy (Radar f) (told_of (AskRadar r c)) (AskRadar r c)
+by_radar : (f : Freq) (r : ℕ) (c : ChanDef) → channel_by f c ≡ c → IsPrintedBy (Radar f) (line_told (AskRadar r c)) (AskRadar r c)
 by_radar Alone r c same = record { printed = refl; asked = ap (λ x. AskRadar r x) same }
 by_radar ByWord r c same = record { printed = refl; asked = ap (λ x. AskRadar r x) same }
 by_radar ByTwenty r c same = record { printed = refl; asked = ap (λ x. AskRadar r x) same }
 by_radar Block r c same = record { printed = refl; asked = ap (λ x. AskRadar r x) same }
 
-start-ap : (f : Freq) (name : List ℕ) (c : ChanDef) → channel_by f c ≡ c → IsPrintedBy (ApStart f) (told_of (AskStart name Ap c)) (AskStart name Ap c)
+start-ap : (f : Freq) (name : List ℕ) (c : ChanDef) → channel_by f c ≡ c → IsPrintedBy (ApStart f) (line_told (AskStart name Ap c)) (AskStart name Ap c)
 start-ap Alone name c same = record { printed = refl; asked = ap (λ x. AskStart name Ap x) same }
 start-ap ByWord name c same = record { printed = refl; asked = ap (λ x. AskStart name Ap x) same }
 start-ap ByTwenty name c same = record { printed = refl; asked = ap (λ x. AskStart name Ap x) same }
 start-ap Block name c same = record { printed = refl; asked = ap (λ x. AskStart name Ap x) same }
 
-start-ibss : (f : Freq) (name : List ℕ) (c : ChanDef) → channel_by f c ≡ c → IsPrintedBy (IbssJoin f) (told_of (AskStart name Ibss c)) (AskStart name Ibss c)
+start-ibss : (f : Freq) (name : List ℕ) (c : ChanDef) → channel_by f c ≡ c → IsPrintedBy (IbssJoin f) (line_told (AskStart name Ibss c)) (AskStart name Ibss c)
 start-ibss Alone name c same = record { printed = refl; asked = ap (λ x. AskStart name Ibss x) same }
 start-ibss ByWord name c same = record { printed = refl; asked = ap (λ x. AskStart name Ibss x) same }
 start-ibss ByTwenty name c same = record { printed = refl; asked = ap (λ x. AskStart name Ibss x) same }
 start-ibss Block name c same = record { printed = refl; asked = ap (λ x. AskStart name Ibss x) same }
 
-start-mesh : (f : Freq) (name : List ℕ) (c : ChanDef) → channel_by f c ≡ c → IsPrintedBy (MeshJoin f) (told_of (AskStart name Mesh c)) (AskStart name Mesh c)
+start-mesh : (f : Freq) (name : List ℕ) (c : ChanDef) → channel_by f c ≡ c → IsPrintedBy (MeshJoin f) (line_told (AskStart name Mesh c)) (AskStart name Mesh c)
 start-mesh Alone name c same = record { printed = refl; asked = ap (λ x. AskStart name Mesh x) same }
 start-mesh ByWord name c same = record { printed = refl; asked = ap (λ x. AskStart name Mesh x) same }
 start-mesh ByTwenty name c same = record { printed = refl; asked = ap (λ x. AskStart name Mesh x) same }
 start-mesh Block name c same = record { printed = refl; asked = ap (λ x. AskStart name Mesh x) same }
 
-start-monitor : (f : Freq) (name : List ℕ) (c : ChanDef) → channel_by f c ≡ c → IsPrintedBy (SetFreq f) (told_of (AskStart name Monitor c)) (AskStart name Monitor c)
+start-monitor : (f : Freq) (name : List ℕ) (c : ChanDef) → channel_by f c ≡ c → IsPrintedBy (SetFreq f) (line_told (AskStart name Monitor c)) (AskStart name Monitor c)
 start-monitor Alone name c same = record { printed = refl; asked = ap (λ x. AskStart name Monitor x) same }
 start-monitor ByWord name c same = record { printed = refl; asked = ap (λ x. AskStart name Monitor x) same }
 start-monitor ByTwenty name c same = record { printed = refl; asked = ap (λ x. AskStart name Monitor x) same }
 start-monitor Block name c same = record { printed = refl; asked = ap (λ x. AskStart name Monitor x) same }
 
-by_check : (f : Freq) (name : List ℕ) (c : ChanDef) → channel_by f c ≡ c → IsPrintedBy (CheckFreq f) (told_of (AskCheck name c)) (AskCheck name c)
+by_check : (f : Freq) (name : List ℕ) (c : ChanDef) → channel_by f c ≡ c → IsPrintedBy (CheckFreq f) (line_told (AskCheck name c)) (AskCheck name c)
 by_check Alone name c same = record { printed = refl; asked = ap (λ x. AskCheck name x) same }
 by_check ByWord name c same = record { printed = refl; asked = ap (λ x. AskCheck name x) same }
 by_check ByTwenty name c same = record { printed = refl; asked = ap (λ x. AskCheck name x) same }
@@ -178,14 +178,14 @@ by_check Block name c same = record { printed = refl; asked = ap (λ x. AskCheck
 plain-channel : (c : ChanDef) → IsLineChannel c → c.width ≡ Noht → noht c.control_khz ≡ c
 plain-channel c is none = subst (λ w. channel_by (freq_by w (c.centre_khz == c.control_khz)) c ≡ c) none (channel-again c is)
 
-by_start : (name : List ℕ) (kind : Kind) (c : ChanDef) → IsLineRequest (AskStart name kind c) → IsPrintedBy (start_form kind c) (told_of (AskStart name kind c)) (AskStart name kind c)
+by_start : (name : List ℕ) (kind : Kind) (c : ChanDef) → IsLineRequest (AskStart name kind c) → IsPrintedBy (start_form kind c) (line_told (AskStart name kind c)) (AskStart name kind c)
 by_start name Ap c line = start-ap (freq_of c) name c (channel-again c line)
 by_start name Ibss c line = start-ibss (freq_of c) name c (channel-again c line)
 by_start name Mesh c line = start-mesh (freq_of c) name c (channel-again c line)
 by_start name Station c line = record { printed = refl; asked = ap (λ x. AskStart name Station x) (plain-channel c line.0 line.1) }
 by_start name Monitor c line = start-monitor (freq_of c) name c (channel-again c line)
 
-by_stop : (name : List ℕ) (kind : Kind) → IsLineRequest (AskStop name kind) → IsPrintedBy (stop_form kind) (told_of (AskStop name kind)) (AskStop name kind)
+by_stop : (name : List ℕ) (kind : Kind) → IsLineRequest (AskStop name kind) → IsPrintedBy (stop_form kind) (line_told (AskStop name kind)) (AskStop name kind)
 by_stop name Ap line = record { printed = refl; asked = refl }
 by_stop name Ibss line = record { printed = refl; asked = refl }
 by_stop name Mesh line = record { printed = refl; asked = refl }
@@ -197,18 +197,18 @@ marks p self_managed deaf one two =
     λ i. record { bands = p.bands; width_mhz = p.width_mhz; radar_mhz = p.radar_mhz; power_mbm = p.power_mbm; contexts = p.contexts; self_managed = sym one i; deaf = sym two i }
 
 by_add : (self_managed deaf : Bool) (r : ℕ) (p : Abilities) → p.self_managed ≡ self_managed → p.deaf ≡ deaf
-    → IsPrintedBy (RadioAdd (extra_of self_managed deaf)) (told_of (AskRadioAdd r p)) (AskRadioAdd r p)
+    → IsPrintedBy (RadioAdd (extra_of self_managed deaf)) (line_told (AskRadioAdd r p)) (AskRadioAdd r p)
 by_add false false r p one two = record { printed = refl; asked = ap (λ x. AskRadioAdd r x) (marks p false false one two) }
 by_add true false r p one two = record { printed = refl; asked = ap (λ x. AskRadioAdd r x) (marks p true false one two) }
 by_add false true r p one two = record { printed = refl; asked = ap (λ x. AskRadioAdd r x) (marks p false true one two) }
 by_add true true r p one two = record { printed = refl; asked = ap (λ x. AskRadioAdd r x) (marks p true true one two) }
 
-by_setting : (name : List ℕ) (s : PowerSetting) → IsPrintedBy (form_of (AskSetPower name s)) (told_of (AskSetPower name s)) (AskSetPower name s)
+by_setting : (name : List ℕ) (s : PowerSetting) → IsPrintedBy (form_of (AskSetPower name s)) (line_told (AskSetPower name s)) (AskSetPower name s)
 by_setting name Auto = record { printed = refl; asked = refl }
 by_setting name (Limit power) = record { printed = refl; asked = refl }
 by_setting name (FixedPower power) = record { printed = refl; asked = refl }
 
-by_indoor : (on : Bool) → IsPrintedBy (form_of (AskIndoor on)) (told_of (AskIndoor on)) (AskIndoor on)
+by_indoor : (on : Bool) → IsPrintedBy (form_of (AskIndoor on)) (line_told (AskIndoor on)) (AskIndoor on)
 by_indoor true = record { printed = refl; asked = refl }
 by_indoor false = record { printed = refl; asked = refl }
 
@@ -217,7 +217,7 @@ abbrev pub GivesNoRules : Request → Type 0
 GivesNoRules (AskRadioRules r rules) = ⊥
 GivesNoRules q = Unit {0}
 
-pub printed-by : (q : Request) → GivesNoRules q → IsTyped q → IsLineRequest q → IsPrintedBy (form_of q) (told_of q) q
+pub printed-by : (q : Request) → GivesNoRules q → IsTyped q → IsLineRequest q → IsPrintedBy (form_of q) (line_told q) q
 printed-by (AskAt moment) plain typed line = record { printed = refl; asked = refl }
 printed-by (AskRadioAdd r p) plain typed line = by_add p.self_managed p.deaf r p refl refl
 printed-by (AskRadioDel r) plain typed line = record { printed = refl; asked = refl }
@@ -243,12 +243,12 @@ pub row-printed : (slots : List Slot) → is_row slots ≡ true → are_printed 
 row-printed slots is = (and_parts (are_printed false slots) (begins_word slots) (and_parts (are_printed false slots && begins_word slots) (nat_le (room slots) 4096) is).0).0
 
 -- The words that are printed at the slots have the form, and ask the request.
-pub asked-again : (q : Request) → GivesNoRules q → IsTyped q → IsLineRequest q → FormOf (map (text_at (rules_of q) (told_of q)) (slots (form_of q))) q
+pub asked-again : (q : Request) → GivesNoRules q → IsTyped q → IsLineRequest q → FormOf (map (text_at (printed_rules_of q) (line_told q)) (slots (form_of q))) q
 asked-again q plain typed line =
     let by = printed-by q plain typed line in
     record {
       form = form_of q;
-      told = tell_all (told_of q) (slots (form_of q)) nothing;
-      tells = walked (rules_of q) (told_of q) nothing (slots (form_of q)) false (can-tell q typed line) (λ e. absurd cc) (row-printed (slots (form_of q)) by.printed);
+      told = tell_all (line_told q) (slots (form_of q)) nothing;
+      tells = walked (printed_rules_of q) (line_told q) nothing (slots (form_of q)) false (can-tell q typed line) (λ e. absurd cc) (row-printed (slots (form_of q)) by.printed);
       asked = sym by.asked;
     }

@@ -7,7 +7,7 @@ use Rattle.reg_journal.specs.Forms.{AreLineRules, IsLineRequest}
 use Rattle.reg_journal.specs.Requests.{FitsRuleFields}
 use Rattle.reg_journal.specs.declared.request.Request.{Request}
 use Rattle.reg_journal.specs.declared.request.Request.TheVariants.{RadioRules as AskRadioRules}
-use Rattle.line_printing.specs.Printed.{IsPlainLineRule, rules_of}
+use Rattle.line_printing.specs.Printed.{IsPlainLineRule, printed_rules_of}
 
 fits : (rule : Rule) → IsValidRule rule × (rule.cac_s ≡ 0) × (rule.wmm ≡ None) → FitsRuleFields rule
 fits rule is =
@@ -22,6 +22,6 @@ fit_fields rules are = All-weaker (λ rule. IsValidRule rule × (rule.cac_s ≡ 
 plain : (rule : Rule) → IsValidRule rule × (rule.cac_s ≡ 0) × (rule.wmm ≡ None) → IsPlainLineRule rule
 plain rule is = (is.1, is.2)
 
-pub plain_rules : (q : Request) → IsLineRequest q → All IsPlainLineRule (rules_of q)
+pub plain_rules : (q : Request) → IsLineRequest q → All IsPlainLineRule (printed_rules_of q)
 plain_rules (AskRadioRules r rules) line = All-weaker (λ rule. IsValidRule rule × (rule.cac_s ≡ 0) × (rule.wmm ≡ None)) IsPlainLineRule plain rules line.2
 plain_rules q line = All-nil IsPlainLineRule

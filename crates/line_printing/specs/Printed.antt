@@ -101,9 +101,9 @@ abbrev pub hex_text : List ℕ → List ℕ
 hex_text body = flat_map hex_pair body
 
 -- the digits of the line
-abbrev pub digits_of : Request → List ℕ
-digits_of (AskElement r body) = hex_text body
-digits_of q = []
+abbrev pub hex_digits_of : Request → List ℕ
+hex_digits_of (AskElement r body) = hex_text body
+hex_digits_of q = []
 
 -- where a request tells nothing, anything stands that a line could tell
 abbrev pub untold : Told
@@ -116,32 +116,32 @@ setting_told (Limit power) d = tell_power power d
 setting_told (FixedPower power) d = tell_power power d
 
 -- what the words of the line tell
-abbrev pub told_of : Request → Told
-told_of (AskAt moment) = tell_moment moment untold
-told_of (AskRadioAdd r p) = tell_profile p (tell_radio r untold)
-told_of (AskRadioDel r) = tell_radio r untold
-told_of (AskRadioRules r rules) = tell_radio r untold
-told_of (AskElement r body) = tell_digits (hex_text body) (tell_radio r untold)
-told_of (AskDriverHint r a) = tell_code a (tell_radio r untold)
-told_of (AskUserHint a) = tell_code a untold
-told_of (AskRadar r c) = tell_chan c (tell_radio r untold)
-told_of (AskIndoor on) = untold
-told_of (AskIfaceAdd r name kind) = tell_kind kind (tell_name name (tell_radio r untold))
-told_of (AskIfaceDel name) = tell_name name untold
-told_of (AskSetType name kind) = tell_kind kind (tell_name name untold)
-told_of (AskSetPower name setting) = setting_told setting (tell_name name untold)
-told_of (AskStart name kind c) = tell_chan c (tell_name name untold)
-told_of (AskStop name kind) = tell_name name untold
-told_of (AskCheck name c) = tell_chan c (tell_name name untold)
-told_of AskGetReg = untold
-told_of (AskChannels r) = tell_radio r untold
-told_of (AskRadioInfo r) = tell_radio r untold
-told_of (AskIfaceInfo name) = tell_name name untold
+abbrev pub line_told : Request → Told
+line_told (AskAt moment) = tell_moment moment untold
+line_told (AskRadioAdd r p) = tell_profile p (tell_radio r untold)
+line_told (AskRadioDel r) = tell_radio r untold
+line_told (AskRadioRules r rules) = tell_radio r untold
+line_told (AskElement r body) = tell_digits (hex_text body) (tell_radio r untold)
+line_told (AskDriverHint r a) = tell_code a (tell_radio r untold)
+line_told (AskUserHint a) = tell_code a untold
+line_told (AskRadar r c) = tell_chan c (tell_radio r untold)
+line_told (AskIndoor on) = untold
+line_told (AskIfaceAdd r name kind) = tell_kind kind (tell_name name (tell_radio r untold))
+line_told (AskIfaceDel name) = tell_name name untold
+line_told (AskSetType name kind) = tell_kind kind (tell_name name untold)
+line_told (AskSetPower name setting) = setting_told setting (tell_name name untold)
+line_told (AskStart name kind c) = tell_chan c (tell_name name untold)
+line_told (AskStop name kind) = tell_name name untold
+line_told (AskCheck name c) = tell_chan c (tell_name name untold)
+line_told AskGetReg = untold
+line_told (AskChannels r) = tell_radio r untold
+line_told (AskRadioInfo r) = tell_radio r untold
+line_told (AskIfaceInfo name) = tell_name name untold
 
 -- the rules that a radio gets
-abbrev pub rules_of : Request → List Rule
-rules_of (AskRadioRules r rules) = rules
-rules_of q = []
+abbrev pub printed_rules_of : Request → List Rule
+printed_rules_of (AskRadioRules r rules) = rules
+printed_rules_of q = []
 
 -- ---- the words
 
@@ -182,10 +182,10 @@ text_at rules t Interval = codes "100"
 text_at rules t Dtim = codes "2"
 
 -- the words at the slots, parted by one blank
-abbrev pub words_at : List Rule → Told → List Slot → List ℕ
-words_at rules t [] = []
-words_at rules t (first ∷ slots) = text_at rules t first ++ flat_map (λ slot. 32 ∷ text_at rules t slot) slots
+abbrev pub slot_words : List Rule → Told → List Slot → List ℕ
+slot_words rules t [] = []
+slot_words rules t (first ∷ slots) = text_at rules t first ++ flat_map (λ slot. 32 ∷ text_at rules t slot) slots
 
 -- The line that is printed for the request.
 abbrev pub line_text : Request → List ℕ
-line_text q = words_at (rules_of q) (told_of q) (slots (form_of q))
+line_text q = slot_words (printed_rules_of q) (line_told q) (slots (form_of q))

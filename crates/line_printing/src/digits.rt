@@ -1,7 +1,7 @@
 //! Prints the digits of hexadecimal.
 
 ghost use Rattle.std.specs.Prelude.{◌≡◌, ◌≤◌, ◌++◌, IfOk, OnOk};
-ghost use Rattle.line_printing.specs.Printed.{digits_of, hex_digit, hex_text};
+ghost use Rattle.line_printing.specs.Printed.{hex_digits_of, hex_digit, hex_text};
 
 use reg_base::Bytes;
 use reg_journal::Request;
@@ -29,7 +29,7 @@ fn put_hex(out: &mut Bytes, body: &[u8]) -> Result<(), OutOfMemory>
 
 /// The digits of hexadecimal in the line of a request.
 pub fn digits_of(alloc: Global, request: &Request) -> Result<Bytes, OutOfMemory>
-    ensures { IfOk result (λ digits. digits ≡ digits_of request.now) }
+    ensures { IfOk result (λ digits. digits ≡ hex_digits_of request.now) }
 {
     let mut digits = Bytes::new(alloc);
     if let Request::Element { body, .. } = request {

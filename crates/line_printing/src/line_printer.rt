@@ -4,7 +4,7 @@ ghost use Rattle.std.specs.Prelude.{◌≡◌, ◌∷◌, ◌++◌, All, IfOk, O
 ghost use Rattle.std.specs.List.{flat_map};
 ghost use Rattle.reg_journal.specs.Forms.{IsLineRequest};
 ghost use Rattle.line_forms.specs.Lines.{Says};
-ghost use Rattle.line_printing.specs.Printed.{IsPlainLineRule, line_text, text_at, words_at};
+ghost use Rattle.line_printing.specs.Printed.{IsPlainLineRule, line_text, text_at, slot_words};
 
 use crate::digits::digits_of;
 use crate::form_choice::form_of;
@@ -43,7 +43,7 @@ fn put_words(
     rules: &[Rule],
 ) -> Result<(), OutOfMemory>
     requires { All IsPlainLineRule rules.now }
-    ensures { OnOk result (out.new ≡ out.old ++ words_at rules.now d.now slots.now) }
+    ensures { OnOk result (out.new ≡ out.old ++ slot_words rules.now d.now slots.now) }
 {
     let [first, rest @ ..] = slots else {
         return Ok(());

@@ -1,7 +1,7 @@
 //! What the line of a request tells.
 
 ghost use Rattle.std.specs.Prelude.{◌≡◌};
-ghost use Rattle.line_printing.specs.Printed.{digits_of, rules_of, setting_told, told_of, untold};
+ghost use Rattle.line_printing.specs.Printed.{hex_digits_of, printed_rules_of, setting_told, line_told, untold};
 
 use chan_def::{ChanDef, Width};
 use chan_flags::PowerSetting;
@@ -34,8 +34,8 @@ fn with_setting<'a>(d: &Draft<'a>, setting: PowerSetting) -> Draft<'a>
 
 /// What the line of the request tells, with these digits of hexadecimal.
 pub fn draft_of<'a>(request: &Request, digits: &'a [u8]) -> Draft<'a>
-    requires { digits.now ≡ digits_of request.now }
-    ensures { result ≡ told_of request.now }
+    requires { digits.now ≡ hex_digits_of request.now }
+    ensures { result ≡ line_told request.now }
 {
     let d = untold();
     match request {
@@ -66,7 +66,7 @@ pub fn draft_of<'a>(request: &Request, digits: &'a [u8]) -> Draft<'a>
 
 /// The rules that the request gives a radio.
 pub fn rules_of(request: &Request) -> &[Rule]
-    ensures { result.now ≡ rules_of request.now }
+    ensures { result.now ≡ printed_rules_of request.now }
 {
     match request {
         Request::RadioRules { rules, .. } => rules.as_slice(),
