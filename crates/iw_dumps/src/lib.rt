@@ -12,5 +12,7 @@ mod words;
 pub use channels::channels_text;
 pub use interfaces::iface_report_text;
 pub use laws::numbers_are_of_the_table;
+pub use pieces::{put_code, put_mhz, put_number, put_radio};
 pub use radios::radio_report_text;
 pub use sections::sections_text;
+pub use words::{bands_text, kind_text};

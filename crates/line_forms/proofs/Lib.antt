@@ -1,4 +1,5 @@
 pub mod Apart
+pub mod AskedLines
 pub mod ChannelNumbers
 pub mod Decided
 pub mod FillsOne
@@ -13,5 +14,6 @@ pub mod Plainly
 pub mod RuleParts
 pub mod Saying
 pub mod Steps
+pub mod ToldChannels
 pub mod Walks
 pub mod WordCuts

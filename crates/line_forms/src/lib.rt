@@ -22,13 +22,16 @@ mod table;
 mod walker;
 mod words;
 
+pub use draft::Draft;
 pub use fault::{LineFault, ReadLineFault};
 pub use form::{Extra, Form, Freq};
 pub use judged::{Judged, judge};
 pub use laws::one_meaning;
+pub use pieces::number_within;
 pub use reader::read;
 pub use request::asked;
 pub use rules::MOST_RULES;
+pub use slot::{Slot, Word, text};
 pub use spelled::read_line;
 pub use table::{FORMS, slots};
 pub use walker::{Blame, End, Stop, walk};

@@ -1,6 +1,7 @@
 //! Reads a line.
 
 ghost use Rattle.std.specs.Prelude.{◌≡◌, ◌↔◌, ◌<◌, ◌≤◌, ℕ, All, IfOk, IfSome, IsTrue, MatchResult, Ok, length};
+ghost use Rattle.reg_journal.specs.Forms.{IsLineRequest};
 ghost use Rattle.reg_journal.specs.Requests.{IsAskable};
 ghost use Rattle.reg_journal.specs.declared.request.Request.{Request};
 ghost use Rattle.line_forms.specs.Faults.{IsFaultBy, IsWordFault};
@@ -111,11 +112,12 @@ fn begins_comment(word: &[u8]) -> bool
     }
 }
 
-/// What the line asks: `None` for a blank line or a comment. The fault is told as `LineFault` says;
-/// `TooLong` comes before `NotAscii`, and this before the faults of words. Memory is asked for only by
-/// lines of rules and of country elements.
+/// What the line asks, which is a request that a line can ask: `None` for a blank line or a comment.
+/// The fault is told as `LineFault` says; `TooLong` comes before `NotAscii`, and this before the faults
+/// of words. Memory is asked for only by lines of rules and of country elements.
 pub fn read_line(alloc: Global, line: &[u8]) -> Result<Option<Request>, ReadLineFault>
     ensures says { MatchResult result (λ asked. Says line.now (Ok asked)) (IsReadLineFault line.now) }
+    ensures line { IfOk result (λ asked. IfSome asked IsLineRequest) }
     ensures askable { IfOk result (λ asked. IfSome asked IsAskable) }
 {
     if line.len() > MOST_LINE_BYTES {

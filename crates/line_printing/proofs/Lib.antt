@@ -1,0 +1,10 @@
+pub mod JoinedWords
+pub mod TidyTexts
+pub mod SlotLines
+pub mod SlotTexts
+pub mod SlotWalks
+pub mod ToldParts
+pub mod RequestsAgain
+pub mod RuleFields
+pub mod RuleLines
+pub mod PrintedLines
