@@ -1,3 +1,4 @@
 pub mod FirstTime
+pub mod NotedDomains
 pub mod FromConversion
 pub mod OneFault

@@ -3,3 +3,4 @@ pub mod Devices
 pub mod Reports
 pub mod Conversions
 pub mod Converted
+pub mod inner

@@ -40,9 +40,13 @@ abbrev pub silent_count : List RuleNote → ℕ
 silent_count notes = count_by (λ note. is_none note.least) notes
 
 -- `C countries, R rules, H without a channel`
+abbrev pub totals_text : ℕ → ℕ → ℕ → List ℕ
+totals_text countries rules silent =
+    decimal countries ++ (codes " countries, " ++ (decimal rules ++ (codes " rules, " ++ (decimal silent ++ codes " without a channel"))))
+
+-- the totals of a database and of the notes on it
 abbrev pub lint_totals : List Domain → List RuleNote → List ℕ
-lint_totals ds notes =
-    decimal (length ds) ++ (codes " countries, " ++ (decimal (rule_count ds) ++ (codes " rules, " ++ (decimal (silent_count notes) ++ codes " without a channel"))))
+lint_totals ds notes = totals_text (length ds) (rule_count ds) (silent_count notes)
 
 -- the text is a line for each note on the database, and a last line with the counts
 abbrev pub IsLintReport : List Domain → List ℕ → Type 0

@@ -1,17 +1,21 @@
 //! Notes on the rules of a database, a line for each.
 
-ghost use Rattle.std.specs.Prelude.{◌≡◌, ◌++◌, IfOk, OnOk, map};
+ghost use Rattle.std.specs.Prelude.{◌≡◌, ◌≤◌, ◌++◌, All, IfOk, OnOk, length, map};
+ghost use Rattle.freq_range.specs.Ascending.{AreAllAscending};
+ghost use Rattle.freq_range.specs.Channels.{IsCentre};
 ghost use Rattle.rule_tables.specs.Databases.{IsDb};
 ghost use Rattle.db_text.specs.Printed.{ended, text_of_lines};
-ghost use Rattle.db_commands.specs.Reports.{IsLintReport, lint_totals, note_line, reach_text, silent_count};
+ghost use Rattle.db_commands.specs.Reports.{IsLintReport, note_line, reach_text, rule_count, silent_count, totals_text};
+ghost use Rattle.db_commands.specs.inner.Noted.{AreNotedLines};
 ghost use Rattle.reg_base.specs.Texts.{line_of};
 
 use crate::count_report::count_rules;
 use crate::line::line_of;
 use crate::pieces::{put_if, put_number, put_whole_mhz};
-use db_lint::{RuleNote, lint};
+use db_lint::{RuleNote, lint_domain};
+use freq_range::all_channels;
 use reg_base::Bytes;
-use reg_lists::OutOfMemory;
+use reg_lists::{OutOfMemory, Seq};
 use rule_tables::{Db, Domain};
 use std::alloc::Global;
 
@@ -76,7 +80,8 @@ fn put_notes(out: &mut Bytes, notes: &[RuleNote]) -> Result<(), OutOfMemory>
 
 /// How many notes are on rules that govern no channel.
 fn count_silent(notes: &[RuleNote]) -> usize
-    ensures { result ≡ silent_count notes.now }
+    ensures exact { result ≡ silent_count notes.now }
+    ensures small { result ≤ length notes.now }
 {
     let mut count = 0;
     for note in notes {
@@ -87,14 +92,37 @@ fn count_silent(notes: &[RuleNote]) -> usize
     count
 }
 
+/// Appends the lines of the notes on the domains' rules, a domain at a time, and gives how many are on
+/// rules that govern no channel.
+fn put_domains(
+    alloc: Global,
+    out: &mut Bytes,
+    domains: &[Domain],
+    channels: &[u32],
+) -> Result<usize, OutOfMemory>
+    requires few { length domains.now ≤ 65536 }
+    requires short { All (λ d. length d.rules ≤ 128) domains.now }
+    requires channels { AreAllAscending IsCentre channels.now }
+    ensures noted { IfOk result (AreNotedLines domains.now out.old out.new) }
+{
+    let mut notes = Seq::new(alloc);
+    let mut silent = 0;
+    for domain in domains {
+        notes.clear();
+        lint_domain(alloc, &mut notes, domain, channels)?;
+        put_notes(out, notes.as_slice())?;
+        silent += count_silent(notes.as_slice());
+    }
+    Ok(silent)
+}
+
 /// `C countries, R rules, H without a channel` and a newline.
-fn totals_line(alloc: Global, domains: &[Domain], notes: &[RuleNote]) -> Result<Bytes, OutOfMemory>
+fn totals_line(alloc: Global, domains: &[Domain], silent: usize) -> Result<Bytes, OutOfMemory>
     requires { IsDb domains.now }
-    ensures { IfOk result (λ line. line ≡ line_of (lint_totals domains.now notes.now)) }
+    ensures { IfOk result (λ line. line ≡ line_of (totals_text (length domains.now) (rule_count domains.now) silent)) }
 {
     let countries = domains.len();
     let rules = count_rules(domains);
-    let silent = count_silent(notes);
     let text = format!(in alloc;
         "{countries} countries, {rules} rules, {silent} without a channel"
     )?;
@@ -105,10 +133,10 @@ fn totals_line(alloc: Global, domains: &[Domain], notes: &[RuleNote]) -> Result<
 pub fn lint_report(alloc: Global, db: &Db) -> Result<Bytes, OutOfMemory>
     ensures { IfOk result (IsLintReport db.now) }
 {
-    let notes = lint(alloc, db)?;
-    let totals = totals_line(alloc, db.as_slice(), notes.as_slice())?;
+    let channels = all_channels(alloc)?;
     let mut out = Bytes::new(alloc);
-    put_notes(&mut out, notes.as_slice())?;
+    let silent = put_domains(alloc, &mut out, db.as_slice(), channels.as_slice())?;
+    let totals = totals_line(alloc, db.as_slice(), silent)?;
     out.append(totals.as_slice())?;
     Ok(out)
 }

@@ -10,4 +10,4 @@ mod rule_at;
 
 pub use entry::{Common, CommonList};
 pub use joint::common;
-pub use notes::{NoteList, RuleNote, lint};
+pub use notes::{NoteList, RuleNote, lint, lint_domain};

@@ -107,9 +107,10 @@ fn push_notes(
     Ok(())
 }
 
-/// Appends the notes on the domain's rules, in their order. Each channel is asked once, and each run
-/// of touching rules is walked once.
-fn push_domain(
+/// Appends the notes on the domain's rules, in their order. `channels` are all channels, as
+/// `freq_range::all_channels` gives them: each is asked once, and each run of touching rules is walked
+/// once. `OutOfMemory` is its one error.
+pub fn lint_domain(
     alloc: Global,
     notes: &mut NoteList,
     domain: &Domain,
@@ -137,7 +138,7 @@ pub fn lint(alloc: Global, db: &Db) -> Result<NoteList, OutOfMemory>
     let channels = all_channels(alloc)?;
     let mut notes = Seq::new(alloc);
     for domain in db.as_slice() {
-        push_domain(alloc, &mut notes, domain, channels.as_slice())?;
+        lint_domain(alloc, &mut notes, domain, channels.as_slice())?;
     }
     Ok(notes)
 }

@@ -1,9 +1,8 @@
 -- Each printed line asks its request.
-use Rattle.std.proofs.Common.{◌≡◌, ◌≢◌, ℕ, ◌+◌, ◌*◌, ◌<◌, ◌≤◌, zero, suc, ◌⊎◌, inl, inr, Bool, true, false, ◌&&◌, List, [], ◌∷◌, ◌++◌, length, get_or, map, All, refl, ap, ◌∙◌, sym, subst, arith}
-use Rattle.std.specs.Prelude.{codes, decimal, nat_le, not, ◌==◌, Option, Some, Result, Ok}
-use Rattle.std.specs.List.{flat_map, list_all}
+use Rattle.std.proofs.Common.{◌≡◌, ◌≢◌, ℕ, ◌≤◌, inl, inr, Bool, true, false, ◌&&◌, List, [], ◌∷◌, ◌++◌, length, get_or, map, All, refl, ap, ◌∙◌, sym, subst, arith}
+use Rattle.std.specs.Prelude.{codes, nat_le, ◌==◌, Option, Some, Result, Ok}
+use Rattle.std.specs.List.{flat_map}
 use Rattle.std.proofs.lemmas.Bool.{and_parts, leb-true}
-use Rattle.std.proofs.lemmas.Fmt.{length-decimal-le}
 use Rattle.std.proofs.lemmas.List.{length-append}
 use Rattle.reg_base.specs.declared.limits.TheConstants.{MOST_LINE_BYTES}
 use Rattle.freq_range.specs.declared.rule.Rule.{Rule}
@@ -12,7 +11,7 @@ use Rattle.reg_journal.specs.Forms.{IsLineRequest}
 use Rattle.reg_journal.specs.Requests.{IsTyped}
 use Rattle.reg_journal.specs.declared.request.Request.{Request}
 use Rattle.reg_journal.specs.declared.request.Request.TheVariants.{At as AskAt, RadioAdd as AskRadioAdd, RadioDel as AskRadioDel, RadioRules as AskRadioRules, Element as AskElement, DriverHint as AskDriverHint, UserHint as AskUserHint, Radar as AskRadar, Indoor as AskIndoor, IfaceAdd as AskIfaceAdd, IfaceDel as AskIfaceDel, SetType as AskSetType, SetPower as AskSetPower, Start as AskStart, Stop as AskStop, Check as AskCheck, GetReg as AskGetReg, Channels as AskChannels, RadioInfo as AskRadioInfo, IfaceInfo as AskIfaceInfo}
-use Rattle.line_forms.specs.Forms.{AreRulesOfText, FormOf, RulesOf, Spells}
+use Rattle.line_forms.specs.Forms.{AreRulesOfText, FormOf, Spells}
 use Rattle.line_forms.specs.Lines.{AreSilent, Asks, IsLineByte, Says}
 use Rattle.line_forms.specs.Rows.{slots}
 use Rattle.line_forms.specs.Words.{words_of}
@@ -23,11 +22,11 @@ use Rattle.line_forms.specs.declared.slot.Slot.{Slot}
 use Rattle.line_forms.specs.declared.slot.Slot.TheVariants.{Fixed, Rules, ChannelNo, WordForm}
 use Rattle.line_forms.proofs.Saying.{one_meaning}
 use Rattle.line_printing.specs.Printed.{form_of, line_text, rules_line, printed_rules_of, text_at, line_told}
-use Rattle.line_printing.proofs.JoinedWords.{AreSolid, IsSolid, joined, joined-bytes, shows, words-again}
-use Rattle.line_printing.proofs.RequestsAgain.{GivesNoRules, IsPrintedBy, asked-again, can-tell, printed-by}
-use Rattle.line_printing.proofs.RuleLines.{append-none, prints-rules}
+use Rattle.line_printing.proofs.JoinedWords.{AreSolid, IsSolid, append-none, joined, joined-bytes, words-again}
+use Rattle.line_printing.proofs.RequestsAgain.{GivesNoRules, asked-again, can-tell, printed-by}
+use Rattle.line_printing.proofs.RuleLines.{prints-rules}
 use Rattle.line_printing.proofs.SlotLines.{slots_joined}
-use Rattle.line_printing.proofs.SlotTexts.{is_word_slot, most, prints, prints-radio}
+use Rattle.line_printing.proofs.SlotTexts.{is_word_slot, prints, prints-radio}
 use Rattle.line_printing.proofs.SlotWalks.{are_printed, begins_word, has_after, is_row, may_stand, radio-again, room}
 use Rattle.line_printing.proofs.TidyTexts.{parted}
 use Rattle.line_printing.proofs.ToldParts.{IsTold}

@@ -1,35 +1,33 @@
 -- The words of a printed line ask the request again.
-use Rattle.std.proofs.Common.{◌≡◌, ℕ, ◌+◌, ◌-◌, ◌*◌, ◌/◌, ◌%◌, ◌^◌, ◌<◌, ◌≤◌, zero, suc, ◌⊎◌, inl, inr, Bool, true, false, ◌&&◌, ◌||◌, List, [], ◌∷◌, ◌++◌, length, map, Option, Some, None, All, refl, ap, ◌∙◌, sym, subst, arith}
-use Rattle.std.specs.Prelude.{codes, nat_le, ◌==◌, cond, if◌then◌else◌}
-use Rattle.std.specs.List.{flat_map, list_all}
+use Rattle.std.proofs.Common.{◌≡◌, ℕ, ◌+◌, ◌*◌, ◌/◌, ◌%◌, ◌^◌, ◌<◌, ◌≤◌, Bool, true, false, ◌&&◌, List, [], ◌∷◌, length, map, All, refl, ap, ◌∙◌, sym, subst, arith}
+use Rattle.std.specs.Prelude.{nat_le, ◌==◌}
+use Rattle.std.specs.List.{list_all}
 use Rattle.std.proofs.lemmas.Bool.{and_parts, eqb-true}
 use Rattle.std.proofs.lemmas.Bool.Decides.{nat_tests}
 use Rattle.std.proofs.lemmas.List.Elements.{All-head, All-tail}
-use Rattle.freq_range.specs.declared.rule.Rule.{Rule}
 use Rattle.chan_def.specs.declared.definition.ChanDef.{ChanDef}
 use Rattle.chan_def.specs.declared.kind.Kind.{Kind}
 use Rattle.chan_def.specs.declared.kind.Kind.TheVariants.{Ap, Ibss, Mesh, Station, Monitor}
 use Rattle.chan_def.specs.declared.width.Width.{Width}
 use Rattle.chan_def.specs.declared.width.Width.TheVariants.{Noht, W20, W40, W80, W160, W320}
-use Rattle.chan_flags.specs.Profiles.{Abilities, abilities}
+use Rattle.chan_flags.specs.Profiles.{Abilities}
 use Rattle.chan_flags.specs.declared.verdict.PowerSetting.{PowerSetting}
 use Rattle.chan_flags.specs.declared.verdict.PowerSetting.TheVariants.{Auto, Limit, Fixed as FixedPower}
 use Rattle.radio_drv.specs.Names.{IsName}
-use Rattle.reg_journal.specs.Forms.{IsLineChannel, IsLineFrequency, IsLineRequest}
+use Rattle.reg_journal.specs.Forms.{IsLineChannel, IsLineRequest}
 use Rattle.reg_journal.specs.Requests.{FitsPowerField, IsTyped}
 use Rattle.reg_journal.specs.declared.request.Request.{Request}
 use Rattle.reg_journal.specs.declared.request.Request.TheVariants.{At as AskAt, RadioAdd as AskRadioAdd, RadioDel as AskRadioDel, RadioRules as AskRadioRules, Element as AskElement, DriverHint as AskDriverHint, UserHint as AskUserHint, Radar as AskRadar, Indoor as AskIndoor, IfaceAdd as AskIfaceAdd, IfaceDel as AskIfaceDel, SetType as AskSetType, SetPower as AskSetPower, Start as AskStart, Stop as AskStop, Check as AskCheck, GetReg as AskGetReg, Channels as AskChannels, RadioInfo as AskRadioInfo, IfaceInfo as AskIfaceInfo}
-use Rattle.line_forms.specs.Forms.{FormOf, HasForm, is_deaf, is_self, request_of}
+use Rattle.line_forms.specs.Forms.{FormOf, request_of}
 use Rattle.line_forms.specs.Rows.{slots}
 use Rattle.line_forms.specs.Spelling.{IsHexWord, hex_bytes, hex_value, is_hex_digit, noht}
 use Rattle.line_forms.specs.Told.{Told, nothing, tell_chan, tell_name, tell_radio, twenty, with_marks}
-use Rattle.line_forms.specs.declared.form.Extra.{Extra}
 use Rattle.line_forms.specs.declared.form.Freq.{Freq}
 use Rattle.line_forms.specs.declared.form.Freq.TheVariants.{Alone, ByWord, Twenty as ByTwenty, Block}
 use Rattle.line_forms.specs.declared.slot.Slot.{Slot}
 use Rattle.line_forms.specs.declared.form.Form.{Form}
 use Rattle.line_forms.specs.declared.form.Form.TheVariants.{RadioAdd, Radar, SetFreq, CheckFreq, ApStart, IbssJoin, MeshJoin}
-use Rattle.line_printing.specs.Printed.{extra_of, form_of, freq_by, freq_of, hex_digit, hex_pair, hex_text, printed_rules_of, setting_told, start_form, stop_form, text_at, line_told, untold}
+use Rattle.line_printing.specs.Printed.{extra_of, form_of, freq_by, freq_of, hex_digit, hex_text, printed_rules_of, setting_told, start_form, stop_form, text_at, line_told, untold}
 use Rattle.line_printing.proofs.SlotWalks.{are_printed, begins_word, is_row, room, tell_all, walked, with_ht}
 use Rattle.line_printing.proofs.ToldParts.{IsTold, is-untold, told-chan, told-code, told-digits, told-kind, told-moment, told-name, told-power, told-profile, told-radio}
 

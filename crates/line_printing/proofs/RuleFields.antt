@@ -1,5 +1,5 @@
 -- What the rules of a line are: their numbers fit their fields, and they carry neither a check time nor a WMM rule.
-use Rattle.std.proofs.Common.{◌≡◌, ℕ, ◌-◌, ◌^◌, ◌<◌, ◌≤◌, List, length, All, None, arith}
+use Rattle.std.proofs.Common.{◌≡◌, List, All, None, arith}
 use Rattle.std.proofs.lemmas.List.Elements.{All-nil, All-weaker}
 use Rattle.freq_range.specs.Valid.{IsValidRule}
 use Rattle.freq_range.specs.declared.rule.Rule.{Rule}

@@ -1,11 +1,10 @@
 -- The line of rules is read as these rules.
-use Rattle.std.proofs.Common.{◌≡◌, ◌≢◌, ℕ, ◌+◌, ◌-◌, ◌*◌, ◌/◌, ◌^◌, ◌<◌, ◌≤◌, zero, suc, ◌⊎◌, inl, inr, Bool, true, false, ◌&&◌, List, [], ◌∷◌, ◌++◌, length, get_or, take, All, None, IsUtf8, refl, ap, ◌∙◌, sym, subst, arith, append_assoc}
-use Rattle.std.specs.Prelude.{codes, nat_le, ◌==◌, if◌then◌else◌}
-use Rattle.std.specs.List.{AllZip, flat_map, list_all, position_or_len, slice_split}
+use Rattle.std.proofs.Common.{◌≡◌, ℕ, ◌+◌, ◌*◌, ◌^◌, ◌<◌, ◌≤◌, zero, suc, Bool, true, false, List, [], ◌∷◌, ◌++◌, length, get_or, take, All, None, refl, ap, ◌∙◌, sym, subst, arith}
+use Rattle.std.specs.Prelude.{codes, ◌==◌}
+use Rattle.std.specs.List.{AllZip, flat_map, list_all, position_or_len}
 use Rattle.std.specs.Str.{IsAscii}
 use Rattle.std.proofs.lemmas.Bool.{ne_eqb}
 use Rattle.std.proofs.lemmas.Bool.Decides.{nat_tests}
-use Rattle.std.proofs.lemmas.Fmt.{decimal_nonempty}
 use Rattle.std.proofs.lemmas.List.{length-append}
 use Rattle.std.proofs.lemmas.List.Elements.{All-cons, All-head, All-tail, All-weaker}
 use Rattle.std.proofs.lemmas.List.Folds.{list_all-append}
@@ -17,7 +16,7 @@ use Rattle.freq_range.specs.declared.flags.RuleFlags.{RuleFlags}
 use Rattle.freq_range.specs.declared.rule.Rule.{Rule}
 use Rattle.text_lines.specs.LineFaults.{AppliesToRule, IsTextOfRule}
 use Rattle.text_lines.specs.Lines.{bare, solid}
-use Rattle.text_lines.specs.Spelling.{IsDecimalText, IsDigit, IsRuleLine, Decimal, decimal_text, flag_name, fraction_text}
+use Rattle.text_lines.specs.Spelling.{IsDecimalText, IsDigit, IsRuleLine, Decimal, decimal_text, fraction_text}
 use Rattle.text_lines.specs.declared.fault.TextKind.{TextKind}
 use Rattle.text_lines.specs.declared.fault.TextKind.TheVariants.{LineTooLong, NotUtf8, BadLine, NoBlock, BadCountry, BadRegion, RegionDiffers, BadBand, BadPower, BadFlag, FlagNotInVersion, NoWmm, BadWmm, WmmTwice, TooManyRules, WmmShort, NoRules}
 use Rattle.text_lines.specs.declared.form.Flag.{Flag}
@@ -29,7 +28,7 @@ use Rattle.db_text.proofs.PrintedText.{printed_rule_reads}
 use Rattle.db_text.proofs.ShownRules.{Shows, all_shown, shows_rule}
 use Rattle.line_forms.specs.Forms.{AreRulesOfText, rule_parts}
 use Rattle.line_printing.specs.Printed.{rules_line}
-use Rattle.line_printing.proofs.JoinedWords.{both, shows}
+use Rattle.line_printing.proofs.JoinedWords.{append-none, both, shows}
 use Rattle.line_printing.proofs.TidyTexts.{Goes, goes, is_tidy, piece-false, piece-true}
 
 -- a rule that a line can give
@@ -137,10 +136,6 @@ small-rule rule is =
     let order = is.0.in_order in
     let wide = is.0.wide_enough in
     shows_rule rule (omega (arith, end, order)) end (omega (arith, end, wide)) is.0.power_fits
-
-pub append-none : (xs : List ℕ) → xs ++ [] ≡ xs
-append-none [] = refl
-append-none (x ∷ xs) = ap (λ (l : List ℕ). x ∷ l) (append-none xs)
 
 shows-printed : (rule : Rule) → IsLineRule rule → Shows (printed_rule rule None) 93
 shows-printed rule is = subst (λ l. Shows l 93) (sym (append-none (rule_part rule))) (small-rule rule is)

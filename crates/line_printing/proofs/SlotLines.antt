@@ -1,6 +1,5 @@
 -- The words at slots, as words that are joined.
 use Rattle.std.proofs.Common.{◌≡◌, ℕ, List, [], ◌∷◌, ◌++◌, map, refl, ap, sym}
-use Rattle.std.specs.List.{flat_map}
 use Rattle.std.proofs.lemmas.List.Folds.{flat_map-map}
 use Rattle.freq_range.specs.declared.rule.Rule.{Rule}
 use Rattle.line_forms.specs.Told.{Told}

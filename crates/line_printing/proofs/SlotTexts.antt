@@ -1,9 +1,7 @@
 -- The words that are printed at slots: that they are words of at most so many bytes, and what they tell.
-use Rattle.std.proofs.Common.{◌≡◌, ◌≢◌, ℕ, ◌+◌, ◌*◌, ◌/◌, ◌%◌, ◌^◌, ◌<◌, ◌≤◌, zero, suc, ◌⊎◌, inl, inr, Bool, true, false, ◌&&◌, ◌||◌, List, [], ◌∷◌, ◌++◌, length, get_or, Option, Some, None, All, refl, ap, ◌∙◌, sym, subst, arith}
-use Rattle.std.specs.Prelude.{codes, decimal, nat_le, ◌==◌, if◌then◌else◌}
-use Rattle.std.specs.Char.{is_ascii_digit}
+use Rattle.std.proofs.Common.{◌≡◌, ℕ, ◌+◌, ◌/◌, ◌%◌, ◌^◌, ◌<◌, ◌≤◌, inl, inr, Bool, true, false, ◌&&◌, ◌||◌, List, [], ◌∷◌, ◌++◌, length, refl, ◌∙◌, arith}
+use Rattle.std.specs.Prelude.{codes, decimal, nat_le, ◌==◌}
 use Rattle.std.specs.List.{list_all}
-use Rattle.std.specs.Str.{all_ascii_digits}
 use Rattle.std.proofs.lemmas.Bool.{and_parts, leb-true}
 use Rattle.std.proofs.lemmas.Bool.Decides.{nat_tests}
 use Rattle.std.proofs.lemmas.Fmt.{decimal_by_steps, decimal_nonempty, length-decimal-le}
@@ -13,17 +11,15 @@ use Rattle.std.proofs.lemmas.List.Sums.{list_all-from_AllPass}
 use Rattle.std.proofs.lemmas.List.Elements.{All-weaker}
 use Rattle.freq_range.specs.declared.rule.Rule.{Rule}
 use Rattle.chan_def.specs.Covered.{width_khz}
-use Rattle.chan_def.specs.declared.definition.ChanDef.{ChanDef}
 use Rattle.chan_def.specs.declared.kind.Kind.{Kind}
 use Rattle.chan_def.specs.declared.kind.Kind.TheVariants.{Ap, Ibss, Mesh, Station, Monitor}
 use Rattle.chan_def.specs.declared.width.Width.{Width}
 use Rattle.chan_def.specs.declared.width.Width.TheVariants.{Noht, W20, W40, W80, W160, W320}
-use Rattle.chan_flags.specs.Profiles.{Abilities, IsProfile, has_some, is_width}
-use Rattle.chan_flags.specs.declared.profile.Bands.{Bands}
+use Rattle.chan_flags.specs.Profiles.{is_width}
 use Rattle.radio_drv.specs.Names.{IsName, IsVisible}
 use Rattle.rule_tables.specs.Code.{IsCode}
 use Rattle.rule_tables.specs.declared.code.Alpha2.{Alpha2}
-use Rattle.iw_dumps.specs.Spelling.{band_numbers, bands_text, code_text, kind_text, radio_text, whole_mhz_text}
+use Rattle.iw_dumps.specs.Spelling.{band_numbers, code_text, kind_text, radio_text}
 use Rattle.line_forms.specs.Slots.{fixed_text}
 use Rattle.line_forms.specs.Spelling.{IsHexWord, is_hex_digit}
 use Rattle.line_forms.specs.Told.{Told}

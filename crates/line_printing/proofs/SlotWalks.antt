@@ -1,28 +1,25 @@
 -- The words that are printed at slots stand there, and tell what was printed.
-use Rattle.std.proofs.Common.{◌≡◌, ◌≢◌, ℕ, ◌+◌, ◌*◌, ◌/◌, ◌%◌, ◌^◌, ◌<◌, ◌≤◌, zero, suc, ◌⊎◌, inl, inr, Bool, true, false, ◌&&◌, ◌||◌, List, [], ◌∷◌, ◌++◌, length, get_or, map, Option, Some, None, refl, ap, ◌∙◌, sym, subst, arith}
-use Rattle.std.specs.Prelude.{codes, decimal, nat_le, not, ◌==◌, if◌then◌else◌}
+use Rattle.std.proofs.Common.{◌≡◌, ◌≢◌, ℕ, ◌+◌, ◌*◌, ◌/◌, ◌%◌, ◌^◌, ◌<◌, ◌≤◌, ◌⊎◌, inl, inr, Bool, true, false, ◌&&◌, ◌||◌, List, [], ◌∷◌, ◌++◌, get_or, map, Some, refl, ap, ◌∙◌, sym, subst, arith}
+use Rattle.std.specs.Prelude.{codes, decimal, nat_le, not, ◌==◌}
 use Rattle.std.proofs.lemmas.Bool.{and_parts, cases_eq, le-leb, ne_eqb}
 use Rattle.std.proofs.lemmas.Bool.Decides.{nat_tests}
 use Rattle.std.proofs.lemmas.Fmt.{decimal_digit, decimal_step}
 use Rattle.freq_range.specs.declared.rule.Rule.{Rule}
 use Rattle.chan_def.specs.Covered.{IsInside, width_khz}
-use Rattle.chan_def.specs.Words.{GivesCentre, IsNamedBy}
-use Rattle.chan_def.specs.declared.definition.ChanDef.{ChanDef}
 use Rattle.chan_def.specs.declared.iw_word.IwWord.TheVariants.{WithoutHt}
 use Rattle.chan_def.specs.declared.kind.Kind.{Kind}
 use Rattle.chan_def.specs.declared.kind.Kind.TheVariants.{Ap, Ibss, Mesh, Station, Monitor}
 use Rattle.chan_def.specs.declared.width.Width.{Width}
 use Rattle.chan_def.specs.declared.width.Width.TheVariants.{Noht, W20, W40, W80, W160, W320}
-use Rattle.chan_flags.specs.Profiles.{Abilities, IsProfile, is_width}
-use Rattle.chan_flags.specs.declared.profile.Bands.{Bands}
-use Rattle.rule_tables.specs.Code.{IsCode, is_code}
+use Rattle.chan_flags.specs.Profiles.{Abilities, is_width}
+use Rattle.rule_tables.specs.Code.{IsCode}
 use Rattle.rule_tables.specs.declared.code.Alpha2.{Alpha2}
 use Rattle.reg_journal.specs.Forms.{IsLineFrequency}
 use Rattle.iw_dumps.specs.Spelling.{bands_text, code_text, kind_text, radio_text, whole_mhz_text}
 use Rattle.line_forms.specs.Forms.{Leads}
-use Rattle.line_forms.specs.Slots.{ByChannel, ByProfile, Fills, FillsChannel, FillsProfile, IsPeriod, fixed_text}
-use Rattle.line_forms.specs.Spelling.{IsSsid, IsWordForm, bands_of_word, between, code_of_word, kind_of_word, noht, number_of_word, number_within, radio_of_word, width_of_word}
-use Rattle.line_forms.specs.Told.{Told, as_wide, round, twenty, tell_chan, tell_code, tell_digits, tell_kind, tell_moment, tell_name, tell_power, tell_profile, tell_radio, with_bands, with_contexts, with_most_power, with_radar, with_width}
+use Rattle.line_forms.specs.Slots.{ByProfile, Fills, FillsProfile, fixed_text}
+use Rattle.line_forms.specs.Spelling.{IsWordForm, bands_of_word, between, code_of_word, kind_of_word, noht, number_within, radio_of_word, width_of_word}
+use Rattle.line_forms.specs.Told.{Told, as_wide, twenty, tell_chan, tell_code, tell_digits, tell_kind, tell_moment, tell_name, tell_power, tell_profile, tell_radio, with_bands, with_contexts, with_most_power, with_radar, with_width}
 use Rattle.line_forms.specs.declared.slot.Slot.{Slot}
 use Rattle.line_forms.specs.declared.slot.Slot.TheVariants.{Fixed, Moment, Radio, Bands as OfBands, Width as OfWidth, RadarWidth, MostPower, Contexts, Rules, Hex, Code, Mhz, ChannelNo, WordForm, Twenty, Wide, Centre, Name, OfKind, Power, Ssid, Interval, Dtim}
 use Rattle.line_forms.proofs.Decided.{is_code-from}

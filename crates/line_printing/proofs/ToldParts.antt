@@ -1,16 +1,14 @@
 -- What a line can tell, and that it tells so with any part of it told anew.
-use Rattle.std.proofs.Common.{◌≡◌, ℕ, ◌+◌, ◌^◌, ◌<◌, ◌≤◌, ◌⊎◌, inl, inr, Bool, true, false, ◌||◌, List, [], ◌∷◌, length, All, refl, arith}
-use Rattle.std.specs.Prelude.{codes, ◌==◌, ◌%◌}
-use Rattle.std.specs.List.{list_all}
+use Rattle.std.proofs.Common.{ℕ, ◌^◌, ◌<◌, ◌≤◌, inr, List, [], refl, arith}
 use Rattle.std.proofs.lemmas.List.Elements.{All-cons, All-nil}
 use Rattle.rule_tables.specs.Code.{IsCode}
 use Rattle.rule_tables.specs.declared.code.Alpha2.{Alpha2}
 use Rattle.chan_def.specs.declared.definition.ChanDef.{ChanDef}
 use Rattle.chan_def.specs.declared.kind.Kind.{Kind}
-use Rattle.chan_flags.specs.Profiles.{Abilities, IsProfile, has_some, is_width}
+use Rattle.chan_flags.specs.Profiles.{Abilities, IsProfile}
 use Rattle.radio_drv.specs.Names.{IsName, IsVisible}
 use Rattle.reg_journal.specs.Forms.{IsLineFrequency}
-use Rattle.line_forms.specs.Spelling.{IsHexWord, is_hex_digit}
+use Rattle.line_forms.specs.Spelling.{IsHexWord}
 use Rattle.line_forms.specs.Told.{Told, tell_chan, tell_code, tell_digits, tell_kind, tell_moment, tell_name, tell_power, tell_profile, tell_radio}
 use Rattle.line_printing.specs.Printed.{untold}
 

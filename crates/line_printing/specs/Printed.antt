@@ -7,7 +7,7 @@ use Rattle.chan_def.specs.declared.definition.ChanDef.{ChanDef}
 use Rattle.chan_def.specs.declared.kind.Kind.{Kind}
 use Rattle.chan_def.specs.declared.kind.Kind.TheVariants.{Ap, Ibss, Mesh, Station, Monitor}
 use Rattle.chan_def.specs.declared.width.Width.{Width}
-use Rattle.chan_def.specs.declared.width.Width.TheVariants.{Noht, W20, W40, W80, W160, W320}
+use Rattle.chan_def.specs.declared.width.Width.TheVariants.{Noht, W20}
 use Rattle.chan_flags.specs.declared.verdict.PowerSetting.{PowerSetting}
 use Rattle.chan_flags.specs.declared.verdict.PowerSetting.TheVariants.{Auto, Limit, Fixed as FixedPower}
 use Rattle.db_text.specs.PrintedRules.{printed_rule}

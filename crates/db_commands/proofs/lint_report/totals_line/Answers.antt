@@ -5,4 +5,4 @@ pub count_rules-rules-requires-clause-few : goal.count_rules-rules-requires-clau
 count_rules-rules-requires-clause-few c = few_domains _ c.requires
 
 pub returns : goal.returns
-returns c = rw (← c.count_rules-rules.ensures.rules, ← c.count_silent-silent.ensures, ← c.in_ok-text.ensures.ok, ← c.as_bytes.ensures.value) c.line_of.ensures
+returns c = rw (← c.count_rules-rules.ensures.rules, ← c.in_ok-text.ensures.ok, ← c.as_bytes.ensures.value) c.line_of.ensures
