@@ -186,10 +186,7 @@ const OPERATIONS: [Row; 21] = [
         b"iw dev w mesh join net freq 2412 40 2422",
     ),
     (b"iw dev w mesh leave", b"iw dev w mesh leave"),
-    (
-        b"iw dev w connect home 2412",
-        b"iw dev w connect net 2412",
-    ),
+    (b"iw dev w connect home 2412", b"iw dev w connect net 2412"),
     (b"iw dev w disconnect", b"iw dev w disconnect"),
 ];
 
