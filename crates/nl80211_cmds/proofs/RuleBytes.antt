@@ -10,7 +10,8 @@ use Rattle.nl_attrs.specs.Nesting.{begun_bytes, nested_with}
 use Rattle.nl_attrs.specs.declared.attr.Attr.{Attr}
 use Rattle.nl_attrs.proofs.ByteLaws.{AreBytes-attrs, AreBytes-le32}
 use Rattle.nl_attrs.proofs.Lengths.{length-attr_bytes, length-le16, length-le32}
-use Rattle.nl80211_cmds.specs.Rules.{EachTells, TellsRule, TellsRules, flag_bits, nested_rules, rule_attrs}
+use Rattle.nl80211_cmds.specs.Rules.{EachTells, TellsRule, TellsRules, flag_bits, limit_attrs, nested_rules, rule_attrs}
+use Rattle.nl80211_cmds.specs.declared.limits.Limits.{Limits}
 use Rattle.nl80211_cmds.specs.Values.{number_attr, TellsNumber}
 use Rattle.nl80211_cmds.specs.declared.attribute.TheConstants.{RULE_CAC_TIME, RULE_END, RULE_FLAGS, RULE_MAX_ANT_GAIN, RULE_MAX_BW, RULE_MAX_EIRP, RULE_START}
 use Rattle.nl80211_cmds.proofs.LineRequests.{IsPlainRule}
@@ -25,18 +26,18 @@ seven_length : (a b c d e f g : Attr) → length (attr_bytes a) ≡ 8 → length
     → length (attrs_bytes (a ∷ b ∷ c ∷ d ∷ e ∷ f ∷ g ∷ [])) ≡ 56
 seven_length a b c d e f g la lb lc ld le lf lg = simp length-append (omega arith)
 
-pub rule_length : (rule : Rule) → length (attrs_bytes (rule_attrs rule)) ≡ 56
-rule_length rule =
-    seven_length (number_attr RULE_FLAGS (flag_bits rule.flags)) (number_attr RULE_START rule.start_khz) (number_attr RULE_END rule.end_khz) (number_attr RULE_MAX_BW rule.max_bw_khz) (number_attr RULE_MAX_ANT_GAIN 0)
-    (number_attr RULE_MAX_EIRP rule.eirp_mbm) (number_attr RULE_CAC_TIME 0) (number_length _ _) (number_length _ _) (number_length _ _) (number_length _ _) (number_length _ _) (number_length _ _) (number_length _ _)
+pub limit_length : (l : Limits) → length (attrs_bytes (limit_attrs l)) ≡ 56
+limit_length l =
+    seven_length (number_attr RULE_FLAGS (flag_bits l.flags)) (number_attr RULE_START l.start_khz) (number_attr RULE_END l.end_khz) (number_attr RULE_MAX_BW l.width_khz) (number_attr RULE_MAX_ANT_GAIN 0)
+    (number_attr RULE_MAX_EIRP l.eirp_mbm) (number_attr RULE_CAC_TIME l.cac_ms) (number_length _ _) (number_length _ _) (number_length _ _) (number_length _ _) (number_length _ _) (number_length _ _) (number_length _ _)
 
 begun_length : (kind : ℕ) → length (begun_bytes kind) ≡ 4
 begun_length kind = simp (length-append, length-le16) refl
 
--- a rule isn't too long to be nested
-pub not_long : (old begun out : List ℕ) (kind start n : ℕ) (rule : Rule) → start ≡ length old → begun ≡ old ++ begun_bytes kind → out ≡ begun ++ attrs_bytes (rule_attrs rule) → 65531 < n → start + 4 + n ≡ length out → ⊥
-not_long old begun out kind start n rule start_is begun_is out_is long is =
-    omega (arith, ap length begun_is, ap length out_is, length-append old (begun_bytes kind), length-append begun (attrs_bytes (rule_attrs rule)), begun_length kind, rule_length rule)
+-- what a rule allows isn't too long to be nested
+pub not_long : (old begun out : List ℕ) (kind start n : ℕ) (l : Limits) → start ≡ length old → begun ≡ old ++ begun_bytes kind → out ≡ begun ++ attrs_bytes (limit_attrs l) → 65531 < n → start + 4 + n ≡ length out → ⊥
+not_long old begun out kind start n l start_is begun_is out_is long is =
+    omega (arith, ap length begun_is, ap length out_is, length-append old (begun_bytes kind), length-append begun (attrs_bytes (limit_attrs l)), begun_length kind, limit_length l)
 
 -- ---- they are attributes
 
@@ -56,7 +57,7 @@ rule_fit rule =
     (number_fit RULE_CAC_TIME 0 (omega arith))
 
 nested_fit : (kind : ℕ) (rule : Rule) → kind < 16384 → IsAttr (nested_with kind (attrs_bytes (rule_attrs rule)))
-nested_fit kind rule lt = record { kind = lt; short = rw rule_length (omega arith); bytes = AreBytes-attrs (rule_attrs rule) (rule_fit rule) }
+nested_fit kind rule lt = record { kind = lt; short = rw limit_length (omega arith); bytes = AreBytes-attrs (rule_attrs rule) (rule_fit rule) }
 
 rules_fit : (kind : ℕ) (rules : List Rule) → kind + length rules ≤ 16384 → All IsAttr (nested_rules kind rules)
 rules_fit kind [] few = All-nil IsAttr

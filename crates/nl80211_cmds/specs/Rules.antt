@@ -1,5 +1,5 @@
 -- Lists of rules in attributes.
-use Rattle.std.specs.Prelude.{◌≡◌, ℕ, ◌+◌, ◌*◌, ◌≤◌, List, [], ◌∷◌, length, All, Option, None, Some, IfSome}
+use Rattle.std.specs.Prelude.{◌≡◌, ℕ, ◌+◌, ◌*◌, ◌≤◌, List, [], ◌∷◌, length, map, All, Option, None, Some, IfSome}
 use Rattle.freq_range.specs.Valid.{IsValidRule}
 use Rattle.freq_range.specs.declared.flags.RuleFlags.{RuleFlags}
 use Rattle.freq_range.specs.declared.rule.Rule.{Rule}
@@ -7,6 +7,7 @@ use Rattle.nl_attrs.specs.Attributes.{IsAttr, attrs_bytes}
 use Rattle.nl_attrs.specs.Nesting.{nested_with}
 use Rattle.nl_attrs.specs.declared.attr.Attr.{Attr}
 use Rattle.nl80211_cmds.specs.Values.{AreFourZeros, bit_of, number_attr, payload_of, TellsNumber}
+use Rattle.nl80211_cmds.specs.declared.limits.Limits.{Limits}
 use Rattle.nl80211_cmds.specs.declared.attribute.TheConstants.{RULE_FLAGS, RULE_START, RULE_END, RULE_MAX_BW, RULE_MAX_ANT_GAIN, RULE_MAX_EIRP, RULE_CAC_TIME}
 
 -- the bits of a rule's flags
@@ -59,14 +60,26 @@ pub record TellsRules (payload : Option (List ℕ)) (rules : List Rule) : Type 0
 
 -- ---- the attributes that are written
 
+-- the seven attributes of what a rule or a row allows, without gain
+abbrev pub limit_attrs : Limits → List Attr
+limit_attrs l =
+    number_attr RULE_FLAGS (flag_bits l.flags) ∷ number_attr RULE_START l.start_khz ∷ number_attr RULE_END l.end_khz
+    ∷ number_attr RULE_MAX_BW l.width_khz ∷ number_attr RULE_MAX_ANT_GAIN 0 ∷ number_attr RULE_MAX_EIRP l.eirp_mbm
+    ∷ number_attr RULE_CAC_TIME l.cac_ms ∷ []
+
+-- limits under the kinds from this one on
+abbrev pub nested_limits : ℕ → List Limits → List Attr
+nested_limits kind [] = []
+nested_limits kind (l ∷ ls) = nested_with kind (attrs_bytes (limit_attrs l)) ∷ nested_limits (kind + 1) ls
+
+-- what a rule of a request allows: it has no check time
+abbrev pub limits_of : Rule → Limits
+limits_of rule = record { flags = rule.flags; start_khz = rule.start_khz; end_khz = rule.end_khz; width_khz = rule.max_bw_khz; eirp_mbm = rule.eirp_mbm; cac_ms = 0 }
+
 -- the seven attributes of a rule
 abbrev pub rule_attrs : Rule → List Attr
-rule_attrs rule =
-    number_attr RULE_FLAGS (flag_bits rule.flags) ∷ number_attr RULE_START rule.start_khz ∷ number_attr RULE_END rule.end_khz
-    ∷ number_attr RULE_MAX_BW rule.max_bw_khz ∷ number_attr RULE_MAX_ANT_GAIN 0 ∷ number_attr RULE_MAX_EIRP rule.eirp_mbm
-    ∷ number_attr RULE_CAC_TIME 0 ∷ []
+rule_attrs rule = limit_attrs (limits_of rule)
 
 -- rules under the kinds from this one on
 abbrev pub nested_rules : ℕ → List Rule → List Attr
-nested_rules kind [] = []
-nested_rules kind (rule ∷ rules) = nested_with kind (attrs_bytes (rule_attrs rule)) ∷ nested_rules (kind + 1) rules
+nested_rules kind rules = nested_limits kind (map limits_of rules)

@@ -41,8 +41,9 @@ pub fn push_text(out: &mut AttrList, kind: u16, text: &[u8]) -> Result<(), OutOf
     push_plain(out, kind, Payload::Text(text))
 }
 
-/// Appends a channel.
-fn push_chan(
+/// Appends a channel: its control frequency and its centre in MHz, and its width, under these kinds.
+/// After `OutOfMemory` a part of it may be there, as with the calls below.
+pub fn push_chan(
     out: &mut AttrList,
     frequency: u16,
     width: u16,
@@ -56,8 +57,8 @@ fn push_chan(
     push_number(out, centre, c.centre_khz / 1_000)
 }
 
-/// Appends how power is set.
-fn push_power(
+/// Appends how power is set, and to what power, in mBm.
+pub fn push_power(
     out: &mut AttrList,
     setting: u16,
     level: u16,
@@ -86,7 +87,7 @@ fn band_bits(bands: Bands) -> u32
 }
 
 /// Appends the attributes of a profile.
-fn push_profile(out: &mut AttrList, p: &Profile) -> Result<(), OutOfMemory>
+pub fn push_profile(out: &mut AttrList, p: &Profile) -> Result<(), OutOfMemory>
     ensures { OnOk result (out.new ≡ out.old ++ profile_attrs p.now) }
 {
     let flags = u32::from(p.self_managed()) + 2 * u32::from(p.deaf());
@@ -99,7 +100,7 @@ fn push_profile(out: &mut AttrList, p: &Profile) -> Result<(), OutOfMemory>
 }
 
 /// The number of a kind of interfaces (`enum nl80211_iftype`).
-fn iftype_number(kind: Kind) -> u32
+pub fn iftype_number(kind: Kind) -> u32
     ensures { result ≡ iftype_number kind }
 {
     match kind {

@@ -17,7 +17,8 @@ use Rattle.reg_journal.specs.declared.reply.Answer.TheVariants.{Started, Checkin
 use Rattle.nl80211_cmds.specs.Errors.{error_answer}
 use Rattle.nl80211_cmds.specs.Fields.{text_attr}
 use Rattle.nl80211_cmds.specs.Values.{number_attr, plain_attr}
-use Rattle.nl80211_replies.specs.declared.attribute.TheConstants.{ALPHA2, CODE, EFFECT, NAME, NUMBER, REPLY, VERSION}
+use Rattle.nl80211_cmds.specs.declared.attribute.TheConstants.{ALPHA2}
+use Rattle.nl80211_replies.specs.declared.attribute.TheConstants.{CODE, EFFECT, NAME, NUMBER, REPLY, VERSION}
 
 -- a number in eight bytes
 abbrev pub wide_attr : ℕ → Attr

@@ -4,15 +4,16 @@ ghost use Rattle.std.specs.Prelude.{◌≡◌, ◌/◌, ◌++◌, ◌∷◌, [],
 ghost use Rattle.reg_journal.specs.Codes.{code_of_answer};
 ghost use Rattle.nl80211_replies.specs.Plain.{answer_attrs, answer_errno, answer_value, refusal_value, wide_attr};
 
-use crate::attribute::{ALPHA2, CODE, NAME, NUMBER};
+use crate::attribute::{CODE, NAME, NUMBER};
 use nl_attrs::{AttrList, Payload};
+use nl80211_cmds::attribute::ALPHA2;
 use nl80211_cmds::{code, errno, push_number, push_plain, push_text};
 use reg_hints::Treatment;
 use reg_journal::{Answer, HintAnswer, Refusal};
 use reg_lists::OutOfMemory;
 
 /// Appends a number in eight bytes.
-fn push_wide(out: &mut AttrList, number: u64) -> Result<(), OutOfMemory>
+pub fn push_wide(out: &mut AttrList, number: u64) -> Result<(), OutOfMemory>
     ensures { OnOk result (out.new ≡ out.old ++ wide_attr number ∷ []) }
 {
     push_plain(out, NUMBER, Payload::U64(number))
