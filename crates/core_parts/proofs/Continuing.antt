@@ -1,16 +1,17 @@
 -- How the drivers go on over changes.
-use Rattle.std.proofs.Common.{◌≡◌, ◌==◌, ℕ, Bool, true, false, List, [], ◌∷◌, Contains, Option, Some, None, IsSomeAnd, if◌then◌else◌, le_refl, arith, refl, sym, ap, subst, ◌∙◌, inl, inr, eq-eqb, ne_eqb}
+use Rattle.std.proofs.Common.{◌≡◌, ◌==◌, ℕ, Bool, true, false, List, [], ◌∷◌, Contains, Option, Some, None, IsSome, IsSomeAnd, if◌then◌else◌, le_refl, arith, refl, sym, ap, subst, ◌∙◌, inl, inr, eq-eqb, ne_eqb}
 use Rattle.std.proofs.lemmas.Bool.{cases_eq}
+use Rattle.std.proofs.lemmas.Option.{none-some}
 use Rattle.std.specs.Option.{option_map}
 use Rattle.rule_tables.specs.declared.domain.Domain.{Domain}
 use Rattle.radio_drv.specs.Air.{powered as given_power, stopped as taken_off, with_power as entry_with_power}
 use Rattle.radio_drv.specs.Seen.{Seen}
 use Rattle.radio_drv.specs.declared.on_air.OnAir.{OnAir}
-use Rattle.radio_drv.proofs.Once.{powered_once}
+use Rattle.radio_drv.proofs.Once.{powered_once, stopped_once}
 use Rattle.reg_journal.specs.Due.{EachMayFollow}
-use Rattle.reg_journal.specs.Facts.{Fact, Journal, after, powered, stopped}
+use Rattle.reg_journal.specs.Facts.{Fact, Journal, after, check_dropped, powered, stopped}
 use Rattle.reg_journal.specs.OnAir.{is_on, on_air_of}
-use Rattle.reg_journal.specs.Present.{Iface, ifaces_of}
+use Rattle.reg_journal.specs.Present.{Iface, Operation, check_of, ifaces_of, operation_of}
 use Rattle.reg_journal.specs.declared.reply.Reply.{Reply}
 use Rattle.reg_journal.specs.declared.request.Request.{Request}
 use Rattle.reg_books.specs.Entries.{entry_on}
@@ -19,8 +20,9 @@ use Rattle.reg_books.specs.Told.{DriverTakes, OneGoes, RunsOn}
 use Rattle.core_parts.specs.Changes.{AreEachTold, CanAllCome, IsInterfaceOf, IsTold, fact_of, facts_of, interface_in}
 use Rattle.core_parts.specs.declared.change.Change.{Change}
 use Rattle.core_parts.specs.declared.change.Change.TheVariants.{Stopped, Powered, Dropped, Ended}
-use Rattle.reg_books.proofs.AirEntries.{entry_on-powered, leaves_air}
-use Rattle.reg_books.proofs.Airs.{air_at-powered}
+use Rattle.reg_journal.proofs.Operations.{no_check_beside, some_value}
+use Rattle.reg_books.proofs.AirEntries.{both, entry_on-powered, leaves_air, on_air_entry}
+use Rattle.reg_books.proofs.Airs.{air_at, air_at-powered, air_at-stopped}
 use Rattle.reg_books.proofs.Driven.{driven_at, driven_left, driven_stopped, follows_stopped}
 use Rattle.reg_books.proofs.Following.{follows_at, follows_left, other_driver}
 use Rattle.reg_books.proofs.Interfaces.{on_its_radio}
@@ -119,6 +121,53 @@ continues_powered db J x power row row' due there goes = record {
     given r i b on = entry_on-powered J r i x.index power
         ∙ ap (λ b. if b then (if i == x.index then option_map (entry_with_power x.index power) (entry_on J r i) else entry_on J r i) else entry_on J r i) on
 
+-- ---- a check that is dropped
+
+idle_where_checked : (db : List Domain) (J : Journal) (i : ℕ) → EachMayFollow db J → IsSome (check_of J i) → operation_of J i ≡ None
+idle_where_checked db J i due checks = by (operation_of J i) refl
+  where
+    by : (o : Option Operation) → operation_of J i ≡ o → operation_of J i ≡ None
+    by None is = is
+    by (Some o) is = let (k, some) = some_value (check_of J i) checks in absurd (none-some k (sym (no_check_beside db J i o due is) ∙ some))
+
+-- an interface that checks has nothing on air
+nothing_on_air : (J : Journal) (r i : ℕ) → operation_of J i ≡ None → entry_on J r i ≡ None
+nothing_on_air J r i idle = rw idle (sym (both (is_on J i r) None))
+
+-- so a list stays as its interface is taken off
+stays_on_air : (i : ℕ) (air : List OnAir) → air_at air i ≡ None → air ≡ taken_off i air
+stays_on_air i [] none = refl
+stays_on_air i (e ∷ air) none = elim (cases_eq e.iface i) [
+  | inl same ↦ let bad : Some e ≡ None = rw (eq-eqb e.iface i same) at none in cc
+  | inr other ↦ rw (ne_eqb e.iface i other) (ap (λ es. e ∷ es) (stays_on_air i air (rw (ne_eqb e.iface i other) at none)))
+]
+
+continues_dropped : (db : List Domain) (J : Journal) (x : Iface) (row row' : List (Option Seen)) → EachMayFollow db (check_dropped x.index ∷ J) → Contains (ifaces_of J) x
+    → OneGoes x.radio (DriverTakes (taken_off x.index)) row row' → Continues J (check_dropped x.index ∷ J) row row'
+continues_dropped db J x row row' due there goes = record {
+  follows = follows_at J (check_dropped x.index ∷ J) x.radio (taken_off x.index) row row' (λ r. refl) lists goes;
+  driven = driven_at db J (check_dropped x.index ∷ J) x.radio (taken_off x.index) row row' due.1 due (λ r. refl) (record {
+    moved = λ i o. if i == x.index then None else o;
+    on_list = λ air i. air_at-stopped x.index air i;
+    of_fact = λ i. entries i;
+    keeps = λ air has. stopped_once x.index air has.is_air;
+  }) (λ r i other. refl) goes;
+  on = one_runs_on x.radio (taken_off x.index) row row' goes;
+}
+  where
+    idle : operation_of J x.index ≡ None
+    idle = idle_where_checked db J x.index due.1 due.0
+
+    lists : (r : ℕ) → on_air_of (check_dropped x.index ∷ J) r ≡ (if x.radio == r then taken_off x.index (on_air_of J r) else on_air_of J r)
+    lists r = both (x.radio == r) (on_air_of J r)
+        ∙ ap (λ air. if x.radio == r then air else on_air_of J r) (stays_on_air x.index (on_air_of J r) (on_air_entry db J r x.index due.1 ∙ nothing_on_air J r x.index idle))
+
+    entries : (i : ℕ) → entry_on (check_dropped x.index ∷ J) x.radio i ≡ (if i == x.index then None else entry_on J x.radio i)
+    entries i = elim (cases_eq i x.index) [
+      | inl same ↦ rw (eq-eqb i x.index same) (subst (λ n. entry_on J x.radio n ≡ None) (sym same) (nothing_on_air J x.radio x.index idle))
+      | inr other ↦ rw (ne_eqb i x.index other) refl
+    ]
+
 pub continues_change : (db : List Domain) (J : Journal) (x : Iface) (c : Change) (row row' : List (Option Seen)) → EachMayFollow db (fact_of c ∷ J) → IsInterfaceOf J x (interface_in c)
     → IsTold c row row' → Continues J (fact_of c ∷ J) row row'
 continues_change db J x (Stopped p) row row' due is told =
@@ -129,7 +178,10 @@ continues_change db J x (Powered p power) row row' due is told =
     subst (λ n. Continues J (powered n power ∷ J) row row') (sym is.index)
     (continues_powered db J x power row row' (subst (λ n. EachMayFollow db (powered n power ∷ J)) is.index due) is.there
     (subst (λ r. OneGoes r (DriverTakes (given_power x.index power)) row row') is.radio (subst (λ n. OneGoes p.radio (DriverTakes (given_power n power)) row row') is.index told)))
-continues_change db J x (Dropped p) row row' due is told = subst (λ h. Continues J (fact_of (Dropped p) ∷ J) row h) (sym told) (continues_left db J (fact_of (Dropped p)) row due refl)
+continues_change db J x (Dropped p) row row' due is told =
+    subst (λ n. Continues J (check_dropped n ∷ J) row row') (sym is.index)
+    (continues_dropped db J x row row' (subst (λ n. EachMayFollow db (check_dropped n ∷ J)) is.index due) is.there
+    (subst (λ r. OneGoes r (DriverTakes (taken_off x.index)) row row') is.radio (subst (λ n. OneGoes p.radio (DriverTakes (taken_off n)) row row') is.index told)))
 continues_change db J x (Ended p) row row' due is told = subst (λ h. Continues J (fact_of (Ended p) ∷ J) row h) (sym told) (continues_left db J (fact_of (Ended p)) row due refl)
 
 pub continues_all : (db : List Domain) (J : Journal) (cs : List Change) (row row' : List (Option Seen)) → EachMayFollow db J → CanAllCome db J cs → AreEachTold cs row row'

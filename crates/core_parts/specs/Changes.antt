@@ -52,11 +52,11 @@ abbrev pub CanAllCome : List Domain → Journal → List Change → Type 0
 CanAllCome db J [] = Unit {0}
 CanAllCome db J (c ∷ changes) = MayFollow db J (fact_of c) × ((x : Iface) × IsInterfaceOf J x (interface_in c)) × CanAllCome db (fact_of c ∷ J) changes
 
--- what a change tells the drivers
+-- what a change tells the drivers: a check that is dropped is told as a stop
 abbrev pub IsTold : Change → List (Option Seen) → List (Option Seen) → Type 0
 IsTold (Stopped p) row row' = OneGoes p.radio (DriverTakes (taken_off p.index)) row row'
 IsTold (Powered p power) row row' = OneGoes p.radio (DriverTakes (given_power p.index power)) row row'
-IsTold (Dropped p) row row' = row' ≡ row
+IsTold (Dropped p) row row' = OneGoes p.radio (DriverTakes (taken_off p.index)) row row'
 IsTold (Ended p) row row' = row' ≡ row
 
 -- what one change after the other tells them

@@ -99,18 +99,18 @@ told_fault words d c TooLong input fault (longer, output) has within h =
 -- ---- the length
 
 -- what was read is no longer than the limit
-pub not_longer : (input : StreamAround) (given : List ℕ) (P : List ℕ → Type 0) → input.before ≡ Some given → input_limit < length given → IsRead input P → ⊥
-not_longer input given P told above read =
+pub not_longer : (most : ℕ) (input : StreamAround) (given : List ℕ) (P : List ℕ → Type 0) → input.before ≡ Some given → most < length given → IsRead most input P → ⊥
+not_longer most input given P told above read =
     let same : given ≡ read.good.given = of_told _ given _ told read.good.all in
-    let long : input_limit < length read.good.given = subst (λ xs. input_limit < length xs) same above in
+    let long : most < length read.good.given = subst (λ xs. most < length xs) same above in
     omega (arith, long, read.good.within)
 
 pub told_length : (words : List (String Global)) (d : Devices) (c : Conversion) (status : Status) (input : List ℕ)
     → IsConverted c d.input d.output status → HasInput words d c input → input_limit < length input → EndsWith status TooLong
-told_length words d c Done input read has above = absurd (not_longer d.input input _ has.told above read)
+told_length words d c Done input read has above = absurd (not_longer input_limit d.input input _ has.told above read)
 told_length words d c Usage input none has above = absurd none
-told_length words d c (Refused fault) input (read, output) has above = absurd (not_longer d.input input _ has.told above read)
+told_length words d c (Refused fault) input (read, output) has above = absurd (not_longer input_limit d.input input _ has.told above read)
 told_length words d c ReadFault input (failed, output) has above = absurd (has.reads failed)
-told_length words d c WriteFault input (failed, read) has above = absurd (not_longer d.input input _ has.told above read)
+told_length words d c WriteFault input (failed, read) has above = absurd (not_longer input_limit d.input input _ has.told above read)
 told_length words d c NoMemory input output has above = inl refl
 told_length words d c TooLong input longer has above = inr refl

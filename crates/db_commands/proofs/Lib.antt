@@ -1,3 +1,4 @@
+pub mod FewWords
 pub mod FirstTime
 pub mod NotedDomains
 pub mod FromConversion

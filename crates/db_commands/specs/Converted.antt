@@ -14,11 +14,11 @@ use Rattle.db_commands.specs.declared.status.Status.TheVariants.{Done, Usage, Re
 
 -- What such a command ends with.
 abbrev pub IsConverted : Conversion → StreamAround → StreamAround → Status → Type 0
-IsConverted command input output Done = IsRead input (λ given. (bytes : List ℕ) × GivesOutput command given bytes × Appends output.before output.after bytes)
+IsConverted command input output Done = IsRead input_limit input (λ given. (bytes : List ℕ) × GivesOutput command given bytes × Appends output.before output.after bytes)
 IsConverted command input output Usage = ⊥
-IsConverted command input output (Refused fault) = IsRead input (λ given. IsInputFault command given fault) × IsUntouched output
+IsConverted command input output (Refused fault) = IsRead input_limit input (λ given. IsInputFault command given fault) × IsUntouched output
 IsConverted command input output ReadFault = HasFault input × IsUntouched output
-IsConverted command input output WriteFault = HasFault output × IsRead input (λ given. (bytes : List ℕ) × GivesOutput command given bytes × AppendsFront output.before output.after bytes)
+IsConverted command input output WriteFault = HasFault output × IsRead input_limit input (λ given. (bytes : List ℕ) × GivesOutput command given bytes × AppendsFront output.before output.after bytes)
 IsConverted command input output NoMemory = IsUntouched output
 IsConverted command input output TooLong = IsLonger input_limit input.before × IsUntouched output
 

@@ -5,9 +5,13 @@ use Rattle.reg_base.specs.Causes.{Rose}
 use Rattle.reg_base.specs.Files.{AreAll}
 use Rattle.radio_drv.specs.Seen.{Seen}
 
--- how many bytes a rule text, a database or a script may have
+-- how many bytes a rule text or a database may have
 abbrev pub input_limit : ℕ
 input_limit = 16777216
+
+-- how many bytes a script may have
+abbrev pub script_limit : ℕ
+script_limit = 4294967295
 
 -- ---- what is lent
 
@@ -75,14 +79,14 @@ HasFileFault files = Rose files.faults_before files.faults_after
 
 -- ---- what was read
 
--- The bytes that were there, where that is told, are at most as many as the limit, and P holds of them.
-pub record AreGood (there : Option (List ℕ)) (P : List ℕ → Type 0) : Type 0 where
+-- The bytes that were there, where that is told, are at most so many, and P holds of them.
+pub record AreGood (most : ℕ) (there : Option (List ℕ)) (P : List ℕ → Type 0) : Type 0 where
   pub given : List ℕ
   pub all : AreAll there given
-  pub within : length given ≤ input_limit
+  pub within : length given ≤ most
   pub holds : P given
 
--- The input was read to its end, and that holds of its bytes.
-pub record IsRead (input : StreamAround) (P : List ℕ → Type 0) : Type 0 where
+-- The input was read to its end. It had at most so many bytes, and that holds of them.
+pub record IsRead (most : ℕ) (input : StreamAround) (P : List ℕ → Type 0) : Type 0 where
   pub at_end : IsAtEnd input.after
-  pub good : AreGood input.before P
+  pub good : AreGood most input.before P

@@ -5,9 +5,13 @@ use Rattle.text_lines.specs.declared.fault.TextKind.TheVariants.{LineTooLong, No
 use Rattle.rule_tables.specs.declared.code.Alpha2.{Alpha2}
 use Rattle.rule_tables.specs.declared.file_fault.DbFault.{DbFault}
 use Rattle.rule_tables.specs.declared.file_fault.DbFault.TheVariants.{Short, BadMagic, BadVersion, BadAlpha2, CountryTwice, BadCollection, BadRegion as BadRegionByte, BadRule, BadWmm as BadWmmRecord}
+use Rattle.line_forms.specs.declared.fault.LineFault.{LineFault}
+use Rattle.line_forms.specs.declared.fault.LineFault.TheVariants.{TooLong as LineIsTooLong, NotAscii, Unknown, BadNumber, BadForm, Missing}
+use Rattle.nl_attrs.specs.declared.fault.AttrFault.{AttrFault}
+use Rattle.nl_attrs.specs.declared.fault.AttrFault.TheVariants.{Truncated, BadLength, Overlong, BadType, BadAttr}
 use Rattle.reg_base.specs.Texts.{line_of}
 use Rattle.db_commands.specs.declared.status.InputFault.{InputFault}
-use Rattle.db_commands.specs.declared.status.InputFault.TheVariants.{Text, Database, Layout, CacTime, NoCountry}
+use Rattle.db_commands.specs.declared.status.InputFault.TheVariants.{Text, Database, Layout, CacTime, NoCountry, Line, Wire}
 use Rattle.db_commands.specs.declared.status.Status.{Status}
 use Rattle.db_commands.specs.declared.status.Status.TheVariants.{Done, Usage, Refused, ReadFault, WriteFault, NoMemory, TooLong}
 
@@ -59,12 +63,35 @@ check_time_text country rule = codes "check time in " ++ (country.a ∷ country.
 abbrev pub no_country_text : Alpha2 → List ℕ
 no_country_text code = codes "no country " ++ (code.a ∷ code.b ∷ [])
 
+-- what is wrong with a line of a script, and at which word, counted from 1
+abbrev pub line_fault_words : LineFault → List ℕ
+line_fault_words LineIsTooLong = codes "too long"
+line_fault_words NotAscii = codes "not ascii"
+line_fault_words (Unknown place) = codes "unknown word " ++ decimal place
+line_fault_words (BadNumber place) = codes "bad number word " ++ decimal place
+line_fault_words (BadForm place) = codes "bad form word " ++ decimal place
+line_fault_words Missing = codes "missing word"
+
+-- the line of that number, counted from 1, is faulty
+abbrev pub script_fault_text : ℕ → LineFault → List ℕ
+script_fault_text number fault = (codes "script line " ++ decimal number) ++ (codes ": " ++ line_fault_words fault)
+
+-- the name of a fault of a stream of messages, without its values
+abbrev pub message_fault_name : AttrFault → List ℕ
+message_fault_name (Truncated n) = codes "Truncated"
+message_fault_name (BadLength n) = codes "BadLength"
+message_fault_name (Overlong n) = codes "Overlong"
+message_fault_name (BadType t) = codes "BadType"
+message_fault_name (BadAttr place) = codes "BadAttr"
+
 abbrev pub fault_text : InputFault → List ℕ
 fault_text (Text fault) = codes "line " ++ (decimal fault.line ++ (codes ": " ++ kind_name fault.kind))
 fault_text (Database fault) = codes "database: " ++ database_fault_name fault
 fault_text (Layout words) = codes "too large: " ++ (decimal words ++ codes " words")
 fault_text (CacTime country rule) = check_time_text country rule
 fault_text (NoCountry code) = no_country_text code
+fault_text (Line number fault) = script_fault_text number fault
+fault_text (Wire place fault) = codes "message at byte " ++ (decimal place ++ (codes ": " ++ message_fault_name fault))
 
 -- what is told of a status: a line, or nothing where all was done
 abbrev pub text_of : Status → List ℕ

@@ -8,6 +8,7 @@ mod line;
 mod lint_report;
 mod pieces;
 mod status;
+mod stream_faults;
 mod streams;
 mod words;
 

@@ -5,7 +5,10 @@ ghost use Rattle.reg_base.specs.Texts.{line_of};
 ghost use Rattle.db_commands.specs.Status.{check_time_text, database_fault_name, fault_text, kind_name, no_country_text, status_number, text_of};
 
 use crate::line::line_of;
+use crate::stream_faults::{message_fault_name, script_fault_line};
 use db_text::{TextFault, TextKind};
+use line_forms::LineFault;
+use nl_attrs::AttrFault;
 use reg_base::Bytes;
 use reg_lists::OutOfMemory;
 use rule_tables::{Alpha2, DbFault};
@@ -26,6 +29,10 @@ pub enum InputFault {
     CacTime { country: Alpha2, rule: usize },
     /// The first of the two codes of `common` that no country of the database has.
     NoCountry(Alpha2),
+    /// The first line of the script that has a fault, counted from 1.
+    Line { number: u64, fault: LineFault },
+    /// The first fault of a stream of messages, and where its message begins, in bytes.
+    Wire { place: u64, fault: AttrFault },
 }
 
 /// What a call of the program ends with.
@@ -95,6 +102,11 @@ fn fault_line(alloc: Global, fault: &InputFault) -> Result<Bytes, OutOfMemory>
         InputFault::Layout { words } => format!(in alloc; "too large: {words} words")?,
         InputFault::CacTime { country, rule } => return check_time_line(alloc, country, *rule),
         InputFault::NoCountry(code) => return no_country_line(alloc, code),
+        InputFault::Line { number, fault } => return script_fault_line(alloc, *number, fault),
+        InputFault::Wire { place, fault } => {
+            let name = message_fault_name(fault);
+            format!(in alloc; "message at byte {place}: {name}")?
+        }
     };
     line_of(alloc, text.as_bytes())
 }

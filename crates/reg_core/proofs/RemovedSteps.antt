@@ -162,7 +162,7 @@ radio_gone db J r effects old new row row' below eight s goes =
     one_eight : (c : Change) (row row' : List (Option Seen)) → IsTold c row row' → length row' ≡ length row
     one_eight (Stopped p) row row' told = as_many p.radio _ row row' told
     one_eight (Powered p power) row row' told = as_many p.radio _ row row' told
-    one_eight (Dropped p) row row' told = ap (λ (xs : List (Option Seen)). length xs) told
+    one_eight (Dropped p) row row' told = as_many p.radio _ row row' told
     one_eight (Ended p) row row' told = ap (λ (xs : List (Option Seen)). length xs) told
 
     told_eight : (cs : List Change) (row row' : List (Option Seen)) → AreEachTold cs row row' → length row' ≡ length row

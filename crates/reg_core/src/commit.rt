@@ -99,7 +99,7 @@ impl Core {
     }
 }
 
-/// Tells the driver of the interface's radio of the change.
+/// Tells the driver of the interface's radio of the change. A check that is dropped is told as a stop.
 pub(crate) fn tell<D: DriverRow>(drivers: &mut D, change: &Change)
     requires eight { length (D.seen drivers.old) ≡ 8 }
     ensures told { IsTold change.now (D.seen drivers.old) (D.seen drivers.new) }
@@ -110,6 +110,7 @@ pub(crate) fn tell<D: DriverRow>(drivers: &mut D, change: &Change)
         Change::Powered(interface, power_mbm) => {
             drivers.set_power(interface.radio, IfIndex(interface.index), *power_mbm);
         }
-        Change::Dropped(_interface) | Change::Ended(_interface) => {}
+        Change::Dropped(interface) => drivers.stop(interface.radio, IfIndex(interface.index)),
+        Change::Ended(_interface) => {}
     }
 }

@@ -1,7 +1,10 @@
 //! Custom rules of radios.
 
-ghost use Rattle.std.specs.Prelude.{◌≡◌, ◌∷◌, List, ℕ, MatchResult, OnErr, length};
+ghost use Rattle.std.specs.Prelude.{◌≡◌, ◌∷◌, List, ℕ, All, MatchOption, MatchResult, OnErr, length};
+ghost use Rattle.freq_range.specs.First.{IsFirst};
+ghost use Rattle.freq_range.specs.Valid.{IsValidRule};
 ghost use Rattle.freq_range.specs.declared.rule.Rule.{Rule};
+ghost use Rattle.rule_tables.specs.Domains.{IsInvalidAt};
 ghost use Rattle.rule_intersect.specs.Tables.{IsTableOf};
 ghost use Rattle.rule_tables.specs.World.{custom_domain};
 ghost use Rattle.rule_tables.specs.declared.domain.Domain.{Domain};
@@ -21,11 +24,10 @@ use crate::drivers::DriverRow;
 use crate::hint_outcomes::declined;
 use crate::indoors::nowhere;
 use core_parts::{CustomRules, RadioPlace, radio_at, radio_table};
-use freq_range::RuleList;
+use freq_range::{Rule, RuleList};
 use reg_hints::RadioNo;
 use reg_journal::{Effects, Refusal};
 use rule_intersect::Table;
-use rule_tables::{Domain, DomainFault};
 use std::alloc::Global;
 
 /// The most custom rules of a radio.
@@ -39,24 +41,45 @@ pub(crate) struct Ruling {
     pub(crate) table: Table,
 }
 
-/// The rules as custom rules, or why they can't be.
+/// The place of the first rule that isn't valid.
+fn first_invalid(rules: &[Rule]) -> Option<usize>
+    ensures { MatchOption result (All IsValidRule rules.now) (IsFirst (IsInvalidAt rules.now)) }
+{
+    for (k, rule) in rules.iter().enumerate() {
+        if !rule.is_valid() {
+            return Some(k);
+        }
+    }
+    None
+}
+
+/// Why these can't be custom rules.
+fn rules_refusal(rules: &[Rule]) -> Option<Refusal>
+    ensures { MatchOption result (AreCustomRules rules.now) (RuleListCauses rules.now) }
+{
+    if rules.len() > MOST_RULES {
+        return Some(Refusal::TooManyRules(rules.len()));
+    }
+    if rules.is_empty() {
+        return Some(Refusal::NoRules);
+    }
+    match first_invalid(rules) {
+        Some(k) => Some(Refusal::BadRule(k)),
+        None => None,
+    }
+}
+
+/// The rules as custom rules, or why they can't be. They are judged before memory is taken for them.
 fn custom_rules(alloc: Global, rules: &RuleList) -> Result<CustomRules, Declined>
     ensures { MatchResult result (λ custom. AreCustomRules rules.now × (custom ≡ custom_domain rules.now))
         (IsReason (RuleListCauses rules.now)) }
 {
-    let count = rules.len();
-    if count > MOST_RULES {
-        return Err(Declined::Refused(Refusal::TooManyRules(count)));
+    if let Some(refusal) = rules_refusal(rules.as_slice()) {
+        return Err(Declined::Refused(refusal));
     }
     let mut copy = RuleList::new(alloc);
     copy.append(rules.as_slice())?;
-    let domain = Domain::custom(copy);
-    match domain.check() {
-        Ok(()) => Ok(CustomRules::new(domain.rules)),
-        Err(DomainFault::NoRules) => Err(Declined::Refused(Refusal::NoRules)),
-        Err(DomainFault::BadRule(k)) => Err(Declined::Refused(Refusal::BadRule(k))),
-        Err(DomainFault::TooMany(_count)) => unreachable!(),
-    }
+    Ok(CustomRules::new(copy))
 }
 
 /// The radio of the place has these custom rules from now on.

@@ -4,7 +4,6 @@ use native.Mathlib.Omega.{arith}
 use native.Mathlib.Numerals.{unary_clauses}
 use Rattle.chan_def.specs.declared.kind.Kind.TheVariants.{Ap, Station}
 use Rattle.chan_flags.specs.Profiles.{Abilities}
-use Rattle.reg_journal.specs.declared.request.Request.{Request}
 use Rattle.reg_journal.specs.declared.request.Request.TheVariants.{RadioAdd, IfaceAdd}
 use Rattle.reg_make.specs.declared.radios.Part.{Part}
 use Rattle.reg_make.specs.declared.radios.Part.TheVariants.{Whole, Ifaces, LastIface}

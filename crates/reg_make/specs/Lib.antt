@@ -1,3 +1,4 @@
 pub mod Draws
+pub mod Domains
 pub mod Made
 pub mod inner

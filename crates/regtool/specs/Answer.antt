@@ -1,5 +1,5 @@
 -- What the top call answers, and why.
-use Rattle.std.specs.Prelude.{◌≡◌, ℕ, ◌<◌, ◌≤◌, ◌⊎◌, List, length}
+use Rattle.std.specs.Prelude.{◌≡◌, ℕ, ◌<◌, ◌≤◌, ◌⊎◌, All, List, length}
 use Rattle.std.specs.declared.alloc.Global.{Global}
 use Rattle.std.specs.declared.string.String.{String}
 use Rattle.rule_tables.specs.FileFaults.{IsDbFault}
@@ -8,17 +8,21 @@ use Rattle.rule_tables.specs.declared.file_fault.DbFault.{DbFault}
 use Rattle.db_commands.specs.Conversions.{IsConversion, IsInputFault, NamesConversion}
 use Rattle.db_commands.specs.Converted.{HasInput, IsConverted, MayConvert, WritesOutput}
 use Rattle.db_commands.specs.Status.{EndsWith}
-use Rattle.db_commands.specs.Devices.{AreLeft, Devices, IsUnread, IsUntouched, input_limit}
+use Rattle.db_commands.specs.Devices.{AreLeft, Devices, HasFault, IsUnread, IsUntouched, input_limit, script_limit}
+use Rattle.iw_commands.specs.Scripts.{script_lines}
+use Rattle.line_forms.specs.declared.fault.LineFault.{LineFault}
+use Rattle.make_command.specs.Make.{IsMakeStatus, MayMake, NamesMake, WritesCounts}
+use Rattle.pack_command.specs.Pack.{HasFaultyLine, HasPackScript, IsGood, IsPackStatus, MayPack, NamesPack, WritesMessages}
 use Rattle.script_run.specs.Run.{HasFile, HasScript, IsRunStatus, IsSilent, MayRun, NamesRun, WritesReplies}
 use Rattle.db_commands.specs.declared.conversion.Conversion.{Conversion}
 use Rattle.db_commands.specs.declared.status.InputFault.{InputFault}
-use Rattle.db_commands.specs.declared.status.InputFault.TheVariants.{Database}
+use Rattle.db_commands.specs.declared.status.InputFault.TheVariants.{Database, Line}
 use Rattle.db_commands.specs.declared.status.Status.{Status}
 use Rattle.db_commands.specs.declared.status.Status.TheVariants.{Done, Usage, Refused, NoMemory, TooLong}
 
 -- the words are the form of a command
 abbrev pub IsCommand : List (String Global) → Type 0
-IsCommand words = IsConversion words ⊎ ((name : List ℕ) × NamesRun words name)
+IsCommand words = IsConversion words ⊎ (((name : List ℕ) × NamesRun words name) ⊎ (((n : ℕ) × NamesMake words n) ⊎ NamesPack words))
 
 -- A conversion ended so. It reads no file, and tells the drivers nothing.
 abbrev pub ConvertsTo : List (String Global) → Devices → Status → Type 0
@@ -29,10 +33,18 @@ ConvertsTo words d status =
 abbrev pub RunsTo : List (String Global) → Devices → Status → Type 0
 RunsTo words d status = (name : List ℕ) × NamesRun words name × IsRunStatus d name status
 
+-- `make` ended so. It reads no file and no input.
+abbrev pub MakesTo : List (String Global) → Devices → Status → Type 0
+MakesTo words d status = (n : ℕ) × NamesMake words n × IsMakeStatus n d.output d.drivers status × IsUnread d.files × IsUntouched d.input
+
+-- `pack` ended so. It reads no file, and tells the drivers nothing.
+abbrev pub PacksTo : List (String Global) → Devices → Status → Type 0
+PacksTo words d status = NamesPack words × IsPackStatus d.input d.output status × IsUnread d.files × AreLeft d.drivers
+
 -- What the program ends with.
 abbrev pub IsStatusOf : List (String Global) → Devices → Status → Type 0
 IsStatusOf words d Usage = (IsCommand words → ⊥) × IsUnread d.files × IsUntouched d.input × IsSilent d
-IsStatusOf words d status = ConvertsTo words d status ⊎ RunsTo words d status
+IsStatusOf words d status = ConvertsTo words d status ⊎ (RunsTo words d status ⊎ (MakesTo words d status ⊎ PacksTo words d status))
 
 -- Where nothing keeps a command from its output, the status is `Done` and all of it is written, or memory was wanting.
 pub record IsComplete (words : List (String Global)) (d : Devices) (status : Status) : Type 0 where
@@ -40,19 +52,26 @@ pub record IsComplete (words : List (String Global)) (d : Devices) (status : Sta
       → MayConvert words d command input ds → (status ≡ NoMemory) ⊎ ((status ≡ Done) × WritesOutput d command ds)
   pub run : (db : List Domain) (script : List ℕ)
       → MayRun words d db script → (status ≡ NoMemory) ⊎ ((status ≡ Done) × WritesReplies d db script)
+  pub make : (n : ℕ) → MayMake words d n → (status ≡ NoMemory) ⊎ ((status ≡ Done) × WritesCounts d n)
+  pub pack : (script : List ℕ) → MayPack words d script → (status ≡ NoMemory) ⊎ ((status ≡ Done) × WritesMessages d script)
 
--- Where the input has a fault, it is refused by it, or memory was wanting. So it is with the database file of `run`.
+-- Where the input has a fault, it is refused by it, or memory was wanting. So it is with the database file of `run`, and with a
+-- script of `pack`, unless a write failed before.
 pub record TellsFault (words : List (String Global)) (d : Devices) (status : Status) : Type 0 where
   pub conversion : (command : Conversion) (input : List ℕ) (fault : InputFault)
       → HasInput words d command input → length input ≤ input_limit → IsInputFault command input fault → EndsWith status (Refused fault)
   pub run : (bytes : List ℕ) (fault : DbFault)
       → HasFile words d bytes → length bytes ≤ input_limit → IsDbFault bytes fault → EndsWith status (Refused (Database fault))
+  pub pack : (script : List ℕ) (number : ℕ) (fault : LineFault)
+      → HasPackScript words d script → length script ≤ script_limit → HasFaultyLine script number fault → EndsWith status (Refused (Line number fault)) ⊎ HasFault d.output
 
 -- Where the input is longer than the limit, that is told, or memory was wanting. So it is with the database file of `run`, and
--- with its script once the database is accepted.
+-- with its script once the database is accepted, and with a script of `pack` that has no faulty line, unless a write failed before.
 pub record TellsLength (words : List (String Global)) (d : Devices) (status : Status) : Type 0 where
   pub conversion : (command : Conversion) (input : List ℕ)
       → HasInput words d command input → input_limit < length input → EndsWith status TooLong
   pub database : (bytes : List ℕ) → HasFile words d bytes → input_limit < length bytes → EndsWith status TooLong
   pub script : (db : List Domain) (script : List ℕ)
-      → HasScript words d db script → input_limit < length script → EndsWith status TooLong
+      → HasScript words d db script → script_limit < length script → EndsWith status TooLong ⊎ HasFault d.output
+  pub pack : (script : List ℕ)
+      → HasPackScript words d script → script_limit < length script → All IsGood (script_lines script) → EndsWith status TooLong ⊎ HasFault d.output

@@ -3,12 +3,14 @@
 ghost use Rattle.std.specs.Prelude.{◌≤◌};
 ghost use Rattle.regtool.specs.Answer.{IsStatusOf, IsComplete, TellsFault, TellsLength};
 ghost use Rattle.db_commands.specs.Devices.{around, devices, driven, stored};
-ghost use Rattle.script_run.specs.Driven.{AreIdle};
+ghost use Rattle.core_runs.specs.Driven.{AreIdle};
 
 #[cfg(test)]
 mod tests;
 
-use db_commands::{Conversion, Status, convert};
+use db_commands::{Conversion, Status, are_only, convert};
+use make_command::{make, number_named};
+use pack_command::pack;
 use reg_base::{Files, Sink, Source};
 use reg_core::DriverRow;
 use script_run::{database_named, run};
@@ -19,8 +21,9 @@ use std::alloc::Global;
 /// its text, `check` reads one and writes how many countries and rules it has, `lint` reads one and
 /// writes notes on its rules, and `common A2 B2` reads one and writes what two countries allow
 /// together. `run DB` reads the database file DB and a script, and writes the replies to the script's
-/// lines; other words are `Usage`. The first thing that fails gives the status, in the order words,
-/// file, its database, input, the input's fault, writing.
+/// lines, and `make N` asks a core as many drawn requests and writes one line that sums the replies up;
+/// other words are `Usage`. The first thing that fails gives the status, in the order words, file, its
+/// database, input, the input's fault, writing.
 pub fn regtool<F: Files, S: Source, K: Sink, D: DriverRow>(
     alloc: Global,
     words: &[String],
@@ -80,11 +83,17 @@ fn dispatch<F: Files, S: Source, K: Sink, D: DriverRow>(
         (around (K.held out.old) (K.held out.new) (K.count out.old) (K.count out.new))
         (driven (D.seen drivers.old) (D.seen drivers.new))) result }
 {
+    if are_only(words, "pack") {
+        return pack(alloc, input, out);
+    }
     match Conversion::named(words) {
         Some(command) => convert(command, alloc, input, out),
         None => match database_named(words) {
             Some(name) => run(alloc, name, files, input, out, drivers),
-            None => Status::Usage,
+            None => match number_named(words) {
+                Some(number) => make(alloc, number, out, drivers),
+                None => Status::Usage,
+            },
         },
     }
 }

@@ -2,13 +2,14 @@
 
 ghost use Rattle.std.specs.Prelude.{◌≡◌, ◌<◌};
 
+use core_runs::add_driver;
 use db_commands::Status;
 use db_text::parse;
 use db_writer::layout;
 use radio_drv::{FailingDriver, SimDriver};
 use reg_base::{Bytes, Files, MemFiles, MemSink, Sink, Source, StdSource};
 use reg_core::Drivers;
-use script_run::{add_driver, run};
+use script_run::run;
 use std::alloc::Global;
 use std::process::Abort;
 use std::test::Fail;

@@ -8,10 +8,10 @@ mod failures;
 #[cfg(test)]
 mod files;
 #[cfg(test)]
+mod pieces;
+#[cfg(test)]
 mod refusals;
 #[cfg(test)]
 mod scripts;
-#[cfg(test)]
-mod shown;
 #[cfg(test)]
 mod swept;

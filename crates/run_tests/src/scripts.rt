@@ -2,7 +2,6 @@
 
 use crate::calls::{Case, RULES, replies};
 use crate::refusals::REFUSED;
-use crate::shown::SHOWN;
 use crate::swept::SWEPT;
 use std::test::Fail;
 
@@ -169,6 +168,5 @@ const ANSWERED: [Case<'_>; 7] = [
 fn scripts_have_their_replies(rt: HostRuntime) -> Result<(), Fail> {
     replies(&rt, rt.alloc(), &ANSWERED)?;
     replies(&rt, rt.alloc(), &REFUSED)?;
-    replies(&rt, rt.alloc(), &SHOWN)?;
     replies(&rt, rt.alloc(), &SWEPT)
 }

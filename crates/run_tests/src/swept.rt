@@ -3,7 +3,7 @@
 use crate::calls::{Case, RULES};
 
 /// The world, and two countries whose regions differ.
-pub const REGIONS: &str = "country 00:
+const REGIONS: &str = "country 00:
 \t(2402 - 2472 @ 40), (20)
 \t(5170 - 5250 @ 80), (20), NO-IR, AUTO-BW
 \t(5250 - 5330 @ 80), (20), NO-IR, DFS, AUTO-BW

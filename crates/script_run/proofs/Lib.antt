@@ -1,5 +1,7 @@
-pub mod Drivers
+pub mod Cutting
 pub mod FromRun
+pub mod Granting
+pub mod Pieces
 pub mod Scripts
-pub mod Told
+pub mod Taking
 pub mod Turning

@@ -1,4 +1,5 @@
 pub mod Output
-pub mod Driven
+pub mod Granting
+pub mod Taken
 pub mod Run
 pub mod inner

@@ -1,5 +1,5 @@
 -- What a script gives: line by line, from the oldest on, what each gives at the journal that the lines before it left.
-use Rattle.std.specs.Prelude.{◌≡◌, ℕ, Bool, true, false, List, [], ◌∷◌, ◌++◌, Option, Some, None, Result, Ok, Err, IsSomeAnd}
+use Rattle.std.specs.Prelude.{◌≡◌, ℕ, List, [], Option, Some, None, Result, Ok, Err}
 use Rattle.rule_tables.specs.declared.domain.Domain.{Domain}
 use Rattle.reg_journal.specs.Facts.{Journal}
 use Rattle.reg_journal.specs.Replies.{Steps}
@@ -7,17 +7,13 @@ use Rattle.reg_journal.specs.declared.reply.Reply.{Reply}
 use Rattle.reg_journal.specs.declared.request.Request.{Request}
 use Rattle.reg_books.specs.DriverRows.{driven_radio}
 use Rattle.reg_core.specs.Stepping.{is_failed}
+use Rattle.core_runs.specs.Given.{EachGives, HaveFailed}
 use Rattle.line_forms.specs.Lines.{Says}
 use Rattle.iw_commands.specs.Printed.{IsTextOf, line_fault_text}
 use Rattle.iw_commands.specs.Scripts.{script_lines}
 use Rattle.line_forms.specs.declared.fault.LineFault.{LineFault}
 
 -- ---- a line
-
--- these radios' drivers failed: that of the request's radio, or none
-abbrev pub HaveFailed : Bool → Option ℕ → List ℕ → Type 0
-HaveFailed false radio failed = failed ≡ []
-HaveFailed true radio failed = IsSomeAnd radio (λ r. failed ≡ r ∷ [])
 
 -- What a line that says this gives: its text, the radios whose drivers failed, and the next journal.
 abbrev pub SayingGives : List Domain → Journal → Result (Option Request) LineFault → List ℕ → List ℕ → Journal → Type 0
@@ -32,17 +28,9 @@ LineGives db J line text failed next = (said : Result (Option Request) LineFault
 
 -- ---- a script
 
--- What the lines give: their texts one behind the other, the radio of each failure of a driver, and the last journal.
-abbrev pub LinesGive : List Domain → Journal → List (List ℕ) → List ℕ → List ℕ → Journal → Type 0
-LinesGive db J [] text failed last = (text ≡ []) × (failed ≡ []) × (last ≡ J)
-LinesGive db J (line ∷ lines) text failed last =
-    (first : List ℕ) × (failed_first : List ℕ) × (next : Journal) × LineGives db J line first failed_first next
-    × (rest : List ℕ) × (failed_rest : List ℕ) × LinesGive db next lines rest failed_rest last
-    × (text ≡ first ++ rest) × (failed ≡ failed_first ++ failed_rest)
-
--- What the script gives from the empty journal on.
+-- What the script gives, line by line, from the empty journal on.
 abbrev pub ScriptGives : List Domain → List ℕ → List ℕ → List ℕ → Journal → Type 0
-ScriptGives db script text failed last = LinesGive db [] (script_lines script) text failed last
+ScriptGives db script text failed last = EachGives (LineGives db) [] (script_lines script) text failed last
 
 -- The output of the script, with no driver failing.
 abbrev pub IsOutput : List Domain → List ℕ → List ℕ → Type 0

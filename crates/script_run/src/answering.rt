@@ -1,56 +1,155 @@
-//! Answers the lines of a script.
+//! Answers a script line by line, as its newlines come.
 
-ghost use Rattle.std.specs.Prelude.{◌≡◌, [], ◌⊎◌, ◌≤◌, ℕ, List, OnErr, OnOk};
+ghost use Rattle.std.specs.Prelude.{◌≡◌, [], ◌∷◌, ◌++◌, ◌⊎◌, ◌≤◌, ℕ, List, Option, IfErr, OnErr, OnOk, false};
 ghost use Rattle.rule_tables.specs.declared.domain.Domain.{Domain};
+ghost use Rattle.radio_drv.specs.Seen.{Seen};
 ghost use Rattle.reg_base.specs.Appended.{AppendsAtMost};
 ghost use Rattle.reg_base.specs.Causes.{HasCause};
-ghost use Rattle.reg_core.specs.Kept.{StandsFor};
 ghost use Rattle.reg_core.specs.Stepping.{IsReady};
 ghost use Rattle.reg_journal.specs.Facts.{Journal};
 ghost use Rattle.db_commands.specs.Devices.{around, driven};
-ghost use Rattle.script_run.specs.Driven.{AreIdle, IsAt};
-ghost use Rattle.script_run.specs.Run.{IsAnswering};
-ghost use Rattle.script_run.specs.inner.Turns.{IsTurn};
+ghost use Rattle.core_runs.specs.Driven.{IsAt};
+ghost use Rattle.script_run.specs.Output.{LineGives};
+ghost use Rattle.script_run.specs.inner.Turns.{HaltsAmong, HasHaltCause, IsCutOf, IsHalt, IsReadSoFar};
+ghost use Rattle.core_runs.specs.Turns.{IsRunSoFar, IsTurn};
 
-use db_commands::Status;
-use iw_commands::{Lines, ReadLineFault, put_fault, put_reply, read_line};
+use iw_commands::{Cut, LineCutter, LineFault, ReadLineFault, put_fault, put_reply, read_line};
 use reg_base::{Bytes, Failed, Sink};
 use reg_core::{Core, DriverRow};
 use reg_lists::OutOfMemory;
-use std::alloc::Global;
 
-/// Answers each line of the script in turn, and writes each answer at once: `Done`, `WriteFault` or
-/// `NoMemory`.
-pub fn answer_lines<K: Sink, D: DriverRow>(
-    alloc: Global,
+/// Why the answering of lines stops.
+#[derive(Clone, Copy)]
+pub enum Halt {
+    /// No memory was found.
+    NoMemory,
+    /// The answer could not be written.
+    WriteFault,
+}
+
+/// Takes the bytes into the cutter, and answers each line as its newline comes.
+pub fn answer_bytes<K: Sink, D: DriverRow>(
     core: &mut Core,
-    script: &[u8],
+    bytes: &[u8],
+    cutter: &mut LineCutter,
+    text: &mut Bytes,
     out: &mut K,
     drivers: &mut D,
-) -> Status
+) -> Result<(), Halt>
     requires ready { IsReady core.old (D.seen drivers.old) }
-    requires idle { AreIdle 8 (D.seen drivers.old) }
-    ensures answering { (db : List Domain) → StandsFor db core.old [] → IsAnswering db script.now
-        (around (K.held out.old) (K.held out.new) (K.count out.old) (K.count out.new))
-        (driven (D.seen drivers.old) (D.seen drivers.new)) result }
-    ensures output_faults { K.count out.old ≤ K.count out.new }
+    requires unended { cutter.old.ended ≡ false }
+    ensures answered { OnOk result ((db : List Domain) (taken : List ℕ) (before : Option (List ℕ)) (heard : List (Option Seen))
+        → IsReadSoFar db taken cutter.old before (K.held out.old) core.old heard (D.seen drivers.old)
+        → IsReadSoFar db (taken ++ bytes.now) cutter.new before (K.held out.new) core.new heard (D.seen drivers.new)) }
+    ensures halted { IfErr result (λ halt. (db : List Domain) (taken : List ℕ) (before : Option (List ℕ)) (heard : List (Option Seen)) (n m : ℕ)
+        → IsReadSoFar db taken cutter.old before (K.held out.old) core.old heard (D.seen drivers.old)
+        → HaltsAmong db (taken ++ bytes.now) (around before (K.held out.new) n m) (driven heard (D.seen drivers.new)) halt) }
+    ensures cause { IfErr result (HasHaltCause (K.count out.old) (K.count out.new)) }
+    ensures later { K.count out.old ≤ K.count out.new }
+    ensures ready { IsReady core.new (D.seen drivers.new) }
+    ensures unended { cutter.new.ended ≡ false }
 {
-    let mut lines = Lines::new(script);
-    let mut text = Bytes::new(alloc);
-    'lines: while let Some(line) = lines.next_line() {
-        if answer_line(core, line, &mut text, drivers).is_err() {
-            return Status::NoMemory;
-        }
-        if write_text(out, text.as_slice()).is_err() {
-            return Status::WriteFault;
-        }
+    for byte in bytes {
+        answer_byte(core, *byte, cutter, text, out, drivers)?;
     }
-    Status::Done
+    Ok(())
+}
+
+/// Takes the byte into the cutter, and answers the line that a newline ends.
+fn answer_byte<K: Sink, D: DriverRow>(
+    core: &mut Core,
+    byte: u8,
+    cutter: &mut LineCutter,
+    text: &mut Bytes,
+    out: &mut K,
+    drivers: &mut D,
+) -> Result<(), Halt>
+    requires ready { IsReady core.old (D.seen drivers.old) }
+    requires unended { cutter.old.ended ≡ false }
+    ensures answered { OnOk result ((db : List Domain) (taken : List ℕ) (before : Option (List ℕ)) (heard : List (Option Seen))
+        → IsReadSoFar db taken cutter.old before (K.held out.old) core.old heard (D.seen drivers.old)
+        → IsReadSoFar db (taken ++ byte ∷ []) cutter.new before (K.held out.new) core.new heard (D.seen drivers.new)) }
+    ensures halted { IfErr result (λ halt. (db : List Domain) (taken more : List ℕ) (before : Option (List ℕ)) (heard : List (Option Seen)) (n m : ℕ)
+        → IsReadSoFar db taken cutter.old before (K.held out.old) core.old heard (D.seen drivers.old)
+        → HaltsAmong db (taken ++ byte ∷ more) (around before (K.held out.new) n m) (driven heard (D.seen drivers.new)) halt) }
+    ensures cause { IfErr result (HasHaltCause (K.count out.old) (K.count out.new)) }
+    ensures later { K.count out.old ≤ K.count out.new }
+    ensures ready { IsReady core.new (D.seen drivers.new) }
+    ensures unended { cutter.new.ended ≡ false }
+{
+    if !cutter.push(byte) {
+        return Ok(());
+    }
+    let answered = answer_line(core, cutter.line(), text, out, drivers);
+    cutter.clear();
+    answered
+}
+
+/// Answers a line, and writes its answer at once, where there is one.
+pub fn answer_line<K: Sink, D: DriverRow>(
+    core: &mut Core,
+    line: Cut<'_>,
+    text: &mut Bytes,
+    out: &mut K,
+    drivers: &mut D,
+) -> Result<(), Halt>
+    requires ready { IsReady core.old (D.seen drivers.old) }
+    ensures answered { OnOk result ((db : List Domain) (lines : List (List ℕ)) (this : List ℕ) (before : Option (List ℕ)) (heard : List (Option Seen))
+        → IsCutOf this line.entry
+        → IsRunSoFar (LineGives db) db lines before (K.held out.old) core.old heard (D.seen drivers.old)
+        → IsRunSoFar (LineGives db) db (lines ++ this ∷ []) before (K.held out.new) core.new heard (D.seen drivers.new)) }
+    ensures halted { IfErr result (λ halt. (db : List Domain) (lines : List (List ℕ)) (this : List ℕ) (rest : List (List ℕ)) (before : Option (List ℕ)) (heard : List (Option Seen)) (n m : ℕ)
+        → IsCutOf this line.entry
+        → IsRunSoFar (LineGives db) db lines before (K.held out.old) core.old heard (D.seen drivers.old)
+        → IsHalt db (lines ++ this ∷ rest) (around before (K.held out.new) n m) (driven heard (D.seen drivers.new)) halt) }
+    ensures cause { IfErr result (HasHaltCause (K.count out.old) (K.count out.new)) }
+    ensures later { K.count out.old ≤ K.count out.new }
+    ensures ready { IsReady core.new (D.seen drivers.new) }
+{
+    if answer_cut(core, line, text, drivers).is_err() {
+        return Err(Halt::NoMemory);
+    }
+    if write_text(out, text.as_slice()).is_err() {
+        return Err(Halt::WriteFault);
+    }
+    Ok(())
 }
 
 /// Answers a line. Its answer is then all that the buffer holds. After `OutOfMemory` the core and the
 /// drivers are as before or went on to the next journal.
-fn answer_line<D: DriverRow>(
+fn answer_cut<D: DriverRow>(
+    core: &mut Core,
+    line: Cut<'_>,
+    text: &mut Bytes,
+    drivers: &mut D,
+) -> Result<(), OutOfMemory>
+    requires ready { IsReady core.old (D.seen drivers.old) }
+    ensures answered { OnOk result ((db : List Domain) (J : Journal) (this : List ℕ)
+        → IsCutOf this line.entry
+        → IsAt db J core.old (D.seen drivers.old)
+        → IsTurn (LineGives db) db J this text.new core.new
+        (D.seen drivers.old) (D.seen drivers.new)) }
+    ensures stopped { OnErr result ((db : List Domain) (J : Journal) (this : List ℕ)
+        → IsCutOf this line.entry
+        → IsAt db J core.old (D.seen drivers.old)
+        → (D.seen drivers.new
+        ≡ D.seen drivers.old)
+        ⊎ ((answer : List ℕ) × IsTurn (LineGives db) db J this answer core.new
+        (D.seen drivers.old) (D.seen drivers.new))) }
+    ensures ready { IsReady core.new (D.seen drivers.new) }
+{
+    match line {
+        Cut::Whole(bytes) => answer_whole(core, bytes, text, drivers),
+        Cut::TooLong => {
+            text.clear();
+            put_fault(text, &LineFault::TooLong)
+        }
+    }
+}
+
+/// Answers a line that is whole. Its answer is then all that the buffer holds. After `OutOfMemory` the core and the
+/// drivers are as before or went on to the next journal.
+fn answer_whole<D: DriverRow>(
     core: &mut Core,
     line: &[u8],
     text: &mut Bytes,
@@ -59,13 +158,13 @@ fn answer_line<D: DriverRow>(
     requires ready { IsReady core.old (D.seen drivers.old) }
     ensures answered { OnOk result ((db : List Domain) (J : Journal)
         → IsAt db J core.old (D.seen drivers.old)
-        → IsTurn db J line.now text.new core.new
+        → IsTurn (LineGives db) db J line.now text.new core.new
         (D.seen drivers.old) (D.seen drivers.new)) }
     ensures stopped { OnErr result ((db : List Domain) (J : Journal)
         → IsAt db J core.old (D.seen drivers.old)
         → (D.seen drivers.new
         ≡ D.seen drivers.old)
-        ⊎ ((answer : List ℕ) × IsTurn db J line.now answer core.new
+        ⊎ ((answer : List ℕ) × IsTurn (LineGives db) db J line.now answer core.new
         (D.seen drivers.old) (D.seen drivers.new))) }
     ensures ready { IsReady core.new (D.seen drivers.new) }
 {

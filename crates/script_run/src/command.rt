@@ -2,23 +2,20 @@
 
 ghost use Rattle.std.specs.Prelude.{◌≡◌, ◌≤◌, List, ℕ, MatchOption, MatchResult};
 ghost use Rattle.rule_tables.specs.FileFormat.{ReadsAs};
-ghost use Rattle.db_commands.specs.Devices.{AreGood, around, devices, driven, stored};
-ghost use Rattle.script_run.specs.Driven.{AreIdle};
+ghost use Rattle.db_commands.specs.Devices.{AreGood, around, devices, driven, input_limit, stored};
+ghost use Rattle.core_runs.specs.Driven.{AreIdle};
 ghost use Rattle.script_run.specs.Run.{IsNoDatabase, IsRunStatus, NamesRun};
 
-use crate::answering::answer_lines;
+use crate::reading::answer_script;
 use db_commands::{InputFault, Status};
 use db_reader::{ReadFault, read_db};
-use reg_base::{FileFault, Files, Sink, Source, read_to_end};
+use reg_base::{FileFault, Files, Sink, Source};
 use reg_core::{Core, DriverRow};
 use rule_tables::Db;
 use std::alloc::Global;
 
 /// How many bytes a database file may have.
 const FILE_LIMIT: u64 = 16_777_216;
-
-/// How many bytes a script may have.
-const SCRIPT_LIMIT: usize = 16_777_216;
 
 /// The name of the database file behind `run`, or `None` where the words aren't of that form.
 pub fn database_named(words: &[String]) -> Option<&str>
@@ -30,8 +27,11 @@ pub fn database_named(words: &[String]) -> Option<&str>
     }
 }
 
-/// Reads the database file of that name and then the whole script, and answers the script line by line.
-/// The first thing that fails gives the status, in the order file, database, script, answers.
+/// Reads the database file of that name and then the script in pieces. Each line is answered as its
+/// newline comes, and a last line without newline at the script's end. The first thing that fails gives
+/// the status: the file, its database, and then what fails first in time. Before `ReadFault` of the
+/// script, and before `TooLong` where it has more than 4,294,967,295 bytes, the lines were answered whose
+/// newlines were taken within that limit.
 pub fn run<F: Files, S: Source, K: Sink, D: DriverRow>(
     alloc: Global,
     name: &str,
@@ -54,14 +54,8 @@ pub fn run<F: Files, S: Source, K: Sink, D: DriverRow>(
         Ok(db) => db,
         Err(status) => return status,
     };
-    let script = match read_to_end(alloc, input, SCRIPT_LIMIT) {
-        Ok(script) => script,
-        Err(FileFault::Failed) => return Status::ReadFault,
-        Err(FileFault::TooLong) => return Status::TooLong,
-        Err(FileFault::OutOfMemory) => return Status::NoMemory,
-    };
     match Core::new(alloc, db) {
-        Ok(mut core) => answer_lines(alloc, &mut core, script.as_slice(), out, drivers),
+        Ok(mut core) => answer_script(alloc, &mut core, input, out, drivers),
         Err(_no_memory) => Status::NoMemory,
     }
 }
@@ -70,7 +64,7 @@ pub fn run<F: Files, S: Source, K: Sink, D: DriverRow>(
 fn read_database<F: Files>(alloc: Global, name: &str, files: &mut F) -> Result<Db, Status>
     ensures faults { F.count files.old ≤ F.count files.new }
     ensures database { MatchResult result
-        (λ db. AreGood (F.holds files.old name.now) (λ bytes. ReadsAs bytes db))
+        (λ db. AreGood input_limit (F.holds files.old name.now) (λ bytes. ReadsAs bytes db))
         (IsNoDatabase (F.holds files.old name.now) (F.count files.old) (F.count files.new)) }
 {
     let bytes = match files.read_file(alloc, name, FILE_LIMIT) {

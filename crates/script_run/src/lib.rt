@@ -3,7 +3,8 @@
 
 mod answering;
 mod command;
-mod driver_row;
+mod laws;
+mod reading;
 
 pub use command::{database_named, run};
-pub use driver_row::add_driver;
+pub use laws::starts_where_granted;

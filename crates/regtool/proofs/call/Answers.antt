@@ -1,4 +1,4 @@
-use Rattle.script_run.proofs.Drivers.{AreIdle-none}
+use Rattle.core_runs.proofs.Drivers.{AreIdle-none}
 use Rattle.regtool.proofs.call.Goals as goal
 
 -- each driver that is added makes one more idle one

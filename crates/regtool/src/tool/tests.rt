@@ -1,8 +1,10 @@
 //! The program from its words to its output: each command, and each status.
 
 use super::regtool;
+use core_runs::add_driver;
 use db_commands::{InputFault, Status};
 use db_text::{TextFault, TextKind};
+use line_forms::LineFault;
 use radio_drv::SimDriver;
 use reg_base::{
     Bytes, FailingFiles, FailingSink, FailingSource, Files, MemFiles, Sink, Source, StdSink,
@@ -10,7 +12,6 @@ use reg_base::{
 };
 use reg_core::Drivers;
 use rule_tables::DbFault;
-use script_run::add_driver;
 use std::alloc::Global;
 use std::process::Abort;
 use std::test::Fail;
@@ -98,7 +99,7 @@ type Call<'a> = (&'a str, &'a [u8], Input<'a>, [u64; 3], Status, &'a [u8]);
 /// The first bytes of a file, which are none of a database.
 const SHORT: &[u8] = b"RGDB\0\0\0";
 
-const CALLS: [Call<'_>; 28] = [
+const CALLS: [Call<'_>; 41] = [
     (
         "compile",
         &US_FILE,
@@ -138,6 +139,65 @@ const CALLS: [Call<'_>; 28] = [
         [0, 0, 0],
         Status::Done,
         REPLIES,
+    ),
+    (
+        "pack",
+        &US_FILE,
+        Input::Bytes(b"# a country, and what holds then\niw reg set US\n\niw reg get"),
+        [0, 0, 0],
+        Status::Done,
+        b"\x1c\0\0\0\x20\0\x05\0\x01\0\0\0\0\0\0\0\x1b\0\0\0\x07\0\x21\0US\0\0\x14\0\0\0\x20\0\x05\x03\x02\0\0\0\0\0\0\0\x1f\0\0\0",
+    ),
+    (
+        "pack",
+        &US_FILE,
+        Input::Bytes(b"at 0\niw reg fly\nat 1\n"),
+        [0, 0, 0],
+        Status::Refused(InputFault::Line {
+            number: 2,
+            fault: LineFault::Unknown(3),
+        }),
+        b"\x20\0\0\0\x21\0\x05\0\x01\0\0\0\0\0\0\0\x01\0\0\0\x0c\0\x01\0\0\0\0\0\0\0\0\0",
+    ),
+    (
+        "pack",
+        &US_FILE,
+        Input::Bytes(b"at 0\n"),
+        [0, 0, 1],
+        Status::WriteFault,
+        b"",
+    ),
+    (
+        "pack",
+        &US_FILE,
+        Input::Bytes(b"at 0\n"),
+        [0, 1, 0],
+        Status::ReadFault,
+        b"",
+    ),
+    (
+        "pack regulatory.db",
+        &US_FILE,
+        Input::Bytes(b"at 0\n"),
+        [0, 0, 0],
+        Status::Usage,
+        b"",
+    ),
+    (
+        "make 1",
+        &US_FILE,
+        Input::Bytes(US),
+        [0, 0, 0],
+        Status::Done,
+        b"requests 25 started 0 refused 0 checks 0 hints 1 effects 0\n",
+    ),
+    (
+        "make 1000",
+        &US_FILE,
+        Input::Bytes(US),
+        [0, 0, 0],
+        Status::Done,
+        b"requests 1024 started 15 refused 355 checks 28 hints 202 effects 19\n",
     ),
     // other words
     (
@@ -228,6 +288,46 @@ const CALLS: [Call<'_>; 28] = [
         Status::Usage,
         b"",
     ),
+    (
+        "make",
+        &US_FILE,
+        Input::Bytes(US),
+        [0, 0, 0],
+        Status::Usage,
+        b"",
+    ),
+    (
+        "make 0",
+        &US_FILE,
+        Input::Bytes(US),
+        [0, 0, 0],
+        Status::Usage,
+        b"",
+    ),
+    (
+        "make 01",
+        &US_FILE,
+        Input::Bytes(US),
+        [0, 0, 0],
+        Status::Usage,
+        b"",
+    ),
+    (
+        "make 1000001",
+        &US_FILE,
+        Input::Bytes(US),
+        [0, 0, 0],
+        Status::Usage,
+        b"",
+    ),
+    (
+        "make 1 2",
+        &US_FILE,
+        Input::Bytes(US),
+        [0, 0, 0],
+        Status::Usage,
+        b"",
+    ),
     // what is not accepted
     (
         "compile",
@@ -276,10 +376,10 @@ const CALLS: [Call<'_>; 28] = [
     (
         "run regulatory.db",
         &US_FILE,
-        Input::Bytes(US),
-        [0, 2, 0],
+        Input::Bytes(SCRIPT),
+        [0, 5, 0],
         Status::ReadFault,
-        b"",
+        b"ok\n",
     ),
     (
         "run regulatory.db",
@@ -297,7 +397,7 @@ const CALLS: [Call<'_>; 28] = [
         Status::ReadFault,
         b"",
     ),
-    // a write that fails: a conversion writes once, and the second write is that of a script's second reply
+    // a write that fails: a conversion and `make` write once, and the second write is that of a script's second reply
     (
         "compile",
         &US_FILE,
@@ -314,7 +414,15 @@ const CALLS: [Call<'_>; 28] = [
         Status::WriteFault,
         b"ok\n",
     ),
-    // an input of more than 16777216 bytes
+    (
+        "make 1",
+        &US_FILE,
+        Input::Bytes(US),
+        [0, 0, 1],
+        Status::WriteFault,
+        b"",
+    ),
+    // 16777217 bytes are more than a rule text may have, and few for a script
     (
         "compile",
         &US_FILE,
@@ -328,7 +436,7 @@ const CALLS: [Call<'_>; 28] = [
         &US_FILE,
         Input::Newlines(16_777_217),
         [0, 0, 0],
-        Status::TooLong,
+        Status::Done,
         b"",
     ),
 ];

@@ -1,4 +1,4 @@
-use Rattle.std.proofs.Common.{arith, codes, ◌≡◌, ◌<◌, ◌≤◌, ◌∙◌, length, List, [], ◌∷◌, get_or, refl, string_bytes, sym}
+use Rattle.std.proofs.Common.{codes, ◌≡◌, ◌∙◌, List, [], ◌∷◌, refl, string_bytes, sym}
 use Rattle.std.proofs.lemmas.Bool.Decides.{Decides-eqb}
 use Rattle.std.proofs.lemmas.Slice.Eq.{slice_eq-Decides}
 use Rattle.std.specs.declared.alloc.Global.{Global}
@@ -7,14 +7,8 @@ use Rattle.rule_tables.specs.Code.{IsCode}
 use Rattle.rule_tables.specs.declared.code.Alpha2.{Alpha2}
 use Rattle.db_commands.specs.Conversions.{NamesConversion}
 use Rattle.db_commands.specs.declared.conversion.Conversion.TheVariants.{Common}
+use Rattle.db_commands.proofs.FewWords.{only_three}
 use Rattle.db_commands.proofs.words.codes_named.Goals as goal
-
-only_three : {A : Type 0} (xs : List A) (x y z : A) → 3 ≤ length xs → length xs < 4 → x ≡ get_or xs 0 x → y ≡ get_or xs 1 y → z ≡ get_or xs 2 z → xs ≡ x ∷ y ∷ z ∷ []
-only_three [] x y z some few here there last = absurd (omega arith)
-only_three (a ∷ []) x y z some few here there last = absurd (omega arith)
-only_three (a ∷ b ∷ []) x y z some few here there last = absurd (omega arith)
-only_three (a ∷ b ∷ c ∷ []) x y z some few here there last = cc
-only_three (a ∷ b ∷ c ∷ d ∷ rest) x y z some few here there last = absurd (omega arith)
 
 names_both : (words : List (String Global)) (name first second : String Global) (one other : Alpha2) → words ≡ name ∷ first ∷ second ∷ [] → string_bytes name ≡ codes "common"
     → string_bytes first ≡ one.a ∷ one.b ∷ [] → IsCode one → string_bytes second ≡ other.a ∷ other.b ∷ [] → IsCode other → NamesConversion words (Common one other)

@@ -1,4 +1,4 @@
-use Rattle.script_run.proofs.Drivers.{AreIdle-none}
+use Rattle.core_runs.proofs.Drivers.{AreIdle-none}
 use Rattle.run_tests.proofs.calls.call.Goals as goal
 
 -- each driver that is added makes one more idle one

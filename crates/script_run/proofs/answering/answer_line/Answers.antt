@@ -1,22 +1,20 @@
-use Rattle.std.proofs.Common.{Ok, subst}
-use Rattle.line_forms.specs.Lines.{Says}
-use Rattle.script_run.proofs.Turning.{turn_printed, turn_silent, turn_told, turn_unprinted}
+use Rattle.db_commands.specs.Devices.{around, driven}
+use Rattle.script_run.proofs.Turning.{goes_on, stops_between, stops_within}
 use Rattle.script_run.proofs.answering.answer_line.Goals as goal
 
-pub returns-in-Ok-None-clause-answered : goal.returns-in-Ok-None-clause-answered
-returns-in-Ok-None-clause-answered g c = λ db J here.
-    turn_silent db J c.args.line.now _ _ _ (subst (λ o. Says c.args.line.now (Ok o)) c.in-Ok-None.field-0-is c.in-Ok-None.ensures.says) c.clear.ensures.empty here
+pub returns-then-is_err-clause-halted : goal.returns-then-is_err-clause-halted
+returns-then-is_err-clause-halted g c = λ db lines this rest before heard n m is so.
+    stops_between c.answer_cut.result db lines this rest c.args.line (around before (g.K.Sink.held c.args.out.now) n m) (driven heard (g.D.DriverRow.seen c.answer_cut.new.drivers))
+    c.args.core.now c.answer_cut.new.core (g.D.DriverRow.seen c.args.drivers.now) c.if-is_err.ensures.value c.answer_cut.ensures.stopped is so
 
-pub returns-in-Ok-clause-answered : goal.returns-in-Ok-clause-answered
-returns-in-Ok-clause-answered g c =
-    turn_printed _ c.args.line.now _ _ _ c.in-Ok.reply _ _ _ _
-    (subst (λ o. Says c.args.line.now (Ok o)) c.in-Ok-Some.field-0-is c.in-Ok-Some.ensures.says) c.in-Ok.ensures.step c.clear.ensures.empty c.put_reply.ensures.text
+pub returns-then-is_err-2-clause-halted : goal.returns-then-is_err-2-clause-halted
+returns-then-is_err-2-clause-halted g c = λ db lines this rest before heard n m is so.
+    stops_within c.answer_cut.result c.write_text.result db lines this rest _ _ c.args.line (around before (g.K.Sink.held c.write_text.new.out) n m) (g.K.Sink.held c.args.out.now)
+    (driven heard (g.D.DriverRow.seen c.answer_cut.new.drivers)) c.args.core.now c.answer_cut.new.core (g.D.DriverRow.seen c.args.drivers.now)
+    c.if-is_err.ensures.value c.if-is_err-2.ensures.value c.as_slice.ensures.items c.answer_cut.ensures.answered c.write_text.ensures.bytes is so
 
-pub returns-in-Ok-clause-stopped : goal.returns-in-Ok-clause-stopped
-returns-in-Ok-clause-stopped g c =
-    turn_unprinted _ c.args.line.now _ c.in-Ok.reply _ _ _ _
-    (subst (λ o. Says c.args.line.now (Ok o)) c.in-Ok-Some.field-0-is c.in-Ok-Some.ensures.says) c.in-Ok.ensures.step
-
-pub returns-in-Err-Line-clause-answered : goal.returns-in-Err-Line-clause-answered
-returns-in-Err-Line-clause-answered g c =
-    turn_told _ c.args.line.now _ _ c.in-Err-Line.fault _ _ (rw c.in-Err-Line.field-0-is at c.in-Err-Line.ensures.says) c.clear.ensures.empty c.put_fault.ensures.text
+pub returns-clause-answered : goal.returns-clause-answered
+returns-clause-answered g c = λ db lines this before heard is so.
+    goes_on c.answer_cut.result c.write_text.result db lines this _ _ c.args.line before (g.K.Sink.held c.args.out.now) (g.K.Sink.held c.write_text.new.out)
+    c.args.core.now c.answer_cut.new.core heard (g.D.DriverRow.seen c.args.drivers.now) (g.D.DriverRow.seen c.answer_cut.new.drivers)
+    c.if-is_err.ensures.value c.if-is_err-2.ensures.value c.as_slice.ensures.items c.answer_cut.ensures.answered c.write_text.ensures.bytes is so

@@ -1,0 +1,5 @@
+pub mod Drivers
+pub mod Each
+pub mod Going
+pub mod Told
+pub mod Turning

@@ -1,0 +1,4 @@
+pub mod Answered
+pub mod Driven
+pub mod Given
+pub mod Turns

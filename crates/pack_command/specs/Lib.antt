@@ -1,0 +1,3 @@
+pub mod Packing
+pub mod Pack
+pub mod inner

@@ -1,0 +1,12 @@
+pub mod Each
+pub mod Fitting
+pub mod Numbered
+pub mod AnswersAgain
+pub mod Behind
+pub mod PartsAgain
+pub mod ChannelsAgain
+pub mod Zipped
+pub mod ReportsAgain
+pub mod ShownAgain
+pub mod Heads
+pub mod WrittenAgain
