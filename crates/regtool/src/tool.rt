@@ -15,6 +15,7 @@ use reg_base::{Files, Sink, Source};
 use reg_core::DriverRow;
 use script_run::{database_named, run};
 use std::alloc::Global;
+use wire_run::wire;
 
 /// Runs the program on the words behind its name, with eight drivers of radios that were told nothing
 /// yet. `compile` reads a rule text and writes its database, `decompile` reads a database and writes
@@ -88,12 +89,29 @@ fn dispatch<F: Files, S: Source, K: Sink, D: DriverRow>(
     }
     match Conversion::named(words) {
         Some(command) => convert(command, alloc, input, out),
-        None => match database_named(words) {
-            Some(name) => run(alloc, name, files, input, out, drivers),
-            None => match number_named(words) {
-                Some(number) => make(alloc, number, out, drivers),
-                None => Status::Usage,
-            },
+        None => match number_named(words) {
+            Some(number) => make(alloc, number, out, drivers),
+            None => dispatch_over_database(alloc, words, files, input, out, drivers),
+        },
+    }
+}
+
+/// Does what the words say of a database file.
+fn dispatch_over_database<F: Files, S: Source, K: Sink, D: DriverRow>(
+    alloc: Global,
+    words: &[String],
+    files: &mut F,
+    input: &mut S,
+    out: &mut K,
+    drivers: &mut D,
+) -> Status
+    requires idle { AreIdle 8 (D.seen drivers.old) }
+{
+    match database_named(words) {
+        Some(name) => run(alloc, name, files, input, out, drivers),
+        None => match wire_run::database_named(words) {
+            Some(name) => wire(alloc, name, files, input, out, drivers),
+            None => Status::Usage,
         },
     }
 }

@@ -61,7 +61,7 @@ pub fn run<F: Files, S: Source, K: Sink, D: DriverRow>(
 }
 
 /// The database in the file of that name, or the status that tells why there is none.
-fn read_database<F: Files>(alloc: Global, name: &str, files: &mut F) -> Result<Db, Status>
+pub fn read_database<F: Files>(alloc: Global, name: &str, files: &mut F) -> Result<Db, Status>
     ensures faults { F.count files.old ≤ F.count files.new }
     ensures database { MatchResult result
         (λ db. AreGood input_limit (F.holds files.old name.now) (λ bytes. ReadsAs bytes db))

@@ -6,5 +6,5 @@ mod command;
 mod laws;
 mod reading;
 
-pub use command::{database_named, run};
+pub use command::{database_named, read_database, run};
 pub use laws::starts_where_granted;

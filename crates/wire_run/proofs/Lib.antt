@@ -1,0 +1,5 @@
+pub mod Lengths
+pub mod Turning
+pub mod Streaming
+pub mod Stopping
+pub mod Together
