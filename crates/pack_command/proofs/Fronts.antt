@@ -1,11 +1,11 @@
 -- The lines that ended within a front of a script are the first of its lines.
 use Rattle.std.proofs.Common.{◌≡◌, ℕ, ◌==◌, Bool, true, false, List, [], ◌∷◌, ◌++◌, take, drop, Option, Some, None, inl, inr, refl, sym, ap, subst, ◌∙◌, append_assoc, append-nil, take-append-drop}
-use Rattle.std.specs.Io.KnownBytes.{Consumes, IsAtEnd}
 use Rattle.iw_commands.specs.Scripts.{script_lines, without_empty_last}
 use Rattle.db_commands.specs.Devices.{StreamAround, script_limit}
 use Rattle.script_run.specs.Taken.{AreEnded, HasLines}
 use Rattle.script_run.specs.inner.Turns.{IsCutAt, onto}
 use Rattle.script_run.proofs.Cutting.{cut_line, cut_more, cut_none, ended}
+use Rattle.script_run.proofs.Told.{consumed_front, consumed_whole}
 
 -- ---- where a list has its last element
 
@@ -63,16 +63,6 @@ ended_first bytes more lines begun are =
     (rest, ap without_empty_last (cut_at bytes lines begun are more) ∙ is)
 
 -- ---- what was taken of a script that is told
-
-consumed_front : (before after : Option (List ℕ)) (script taken : List ℕ) → before ≡ Some script → Consumes before after taken → (left : List ℕ) × (script ≡ taken ++ left)
-consumed_front None after script taken told all = absurd cc
-consumed_front (Some xs) None script taken told all = absurd all
-consumed_front (Some xs) (Some ys) script taken told all = let same : xs ≡ script = cc in (ys, sym same ∙ all)
-
-consumed_whole : (before after : Option (List ℕ)) (script taken : List ℕ) → before ≡ Some script → Consumes before after taken → IsAtEnd after → script ≡ taken
-consumed_whole None after script taken told all end = absurd cc
-consumed_whole (Some xs) None script taken told all end = absurd all
-consumed_whole (Some xs) (Some ys) script taken told all end = let same : xs ≡ script = cc in sym same ∙ all ∙ ap (λ l. taken ++ l) end ∙ append-nil taken
 
 -- the lines that could be answered are the first lines of the script
 pub lines_first : (input : StreamAround) (script : List ℕ) (P : List (List ℕ) → Type 0) → input.before ≡ Some script → HasLines input P

@@ -17,6 +17,8 @@ usage: regtool COMMAND < INPUT > OUTPUT
               a database to what the countries A2 and B2 allow together
   run DB      a script to the replies to its lines, over the database file DB
   pack        a script to its requests as messages
+  wire DB     messages of requests to the messages of their replies, over the
+              database file DB
   make N      no input to the counts of the replies to N drawn requests, N
               from 1 to 1000000
   --help      this text
@@ -26,13 +28,13 @@ status:
 
   0  all output was written
   1  the words are none of these commands
-  2  the rule text, the database or a line of the script of pack is not
-     accepted, or has no output
+  2  the rule text, the database, a line of the script of pack or a message
+     is not accepted, or has no output
   3  the input or the database file could not be read
   4  the output could not be written
   5  out of memory
   6  the input or the database file has more than 16777216 bytes, or the
-     script more than 4294967295
+     script or the messages more than 4294967295
 
 A status other than 0 has a line on standard error.
 

@@ -1,7 +1,9 @@
 pub mod Cutting
+pub mod FromFile
 pub mod FromRun
 pub mod Granting
 pub mod Pieces
 pub mod Scripts
 pub mod Taking
+pub mod Told
 pub mod Turning

@@ -74,25 +74,27 @@ IsRunStatus d name TooLong = EndsAtFile d name TooLong ⊎ Answers d name TooLon
 
 -- ---- what comes of what is told
 
--- A database file was told, and no file could not be read.
-pub record HasFile (words : List (String Global)) (d : Devices) (bytes : List ℕ) : Type 0 where
-  pub name : List ℕ
-  pub form : NamesRun words name
+-- A file of that name was told, and no file could not be read.
+pub record HasFile (d : Devices) (name bytes : List ℕ) : Type 0 where
   pub told : d.files.before name ≡ Some bytes
   pub files : HasFileFault d.files → ⊥
 
--- It is accepted as a database, and then a script was told, and no read failed.
-pub record HasScript (words : List (String Global)) (d : Devices) (db : List Domain) (script : List ℕ) : Type 0 where
+-- It is accepted as that database.
+pub record HasAcceptedFile (d : Devices) (name : List ℕ) (db : List Domain) : Type 0 where
   pub bytes : List ℕ
-  pub file : HasFile words d bytes
+  pub file : HasFile d name bytes
   pub within : length bytes ≤ input_limit
   pub accepted : ReadsAs bytes db
-  pub told : d.input.before ≡ Some script
+
+-- And then an input was told, and no read failed.
+pub record HasInputOver (d : Devices) (name : List ℕ) (db : List Domain) (input : List ℕ) : Type 0 where
+  pub file : HasAcceptedFile d name db
+  pub told : d.input.before ≡ Some input
   pub reads : HasFault d.input → ⊥
 
 -- Nothing keeps the script from being answered: it is at most as long as the limit, and no write failed.
-pub record MayRun (words : List (String Global)) (d : Devices) (db : List Domain) (script : List ℕ) : Type 0 where
-  pub has_script : HasScript words d db script
+pub record MayRun (d : Devices) (name : List ℕ) (db : List Domain) (script : List ℕ) : Type 0 where
+  pub has_script : HasInputOver d name db script
   pub within : length script ≤ script_limit
   pub writes : HasFault d.output → ⊥
 

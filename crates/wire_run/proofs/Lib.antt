@@ -1,3 +1,4 @@
+pub mod FromWire
 pub mod Lengths
 pub mod Turning
 pub mod Streaming

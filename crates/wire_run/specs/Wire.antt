@@ -1,9 +1,8 @@
 -- The command `wire`: what it ends with, and why.
-use Rattle.std.specs.Prelude.{◌≡◌, ℕ, ◌≤◌, ◌⊎◌, List, [], ◌∷◌, length, map, Option, Some, None, codes, string_bytes}
+use Rattle.std.specs.Prelude.{◌≡◌, ℕ, ◌≤◌, ◌⊎◌, List, [], ◌∷◌, length, map, take, Some, None, codes, string_bytes}
 use Rattle.std.specs.Io.KnownBytes.{Appends, IsAtEnd}
 use Rattle.std.specs.declared.alloc.Global.{Global}
 use Rattle.std.specs.declared.string.String.{String}
-use Rattle.rule_tables.specs.FileFormat.{ReadsAs}
 use Rattle.rule_tables.specs.declared.domain.Domain.{Domain}
 use Rattle.nl_attrs.specs.Streams.{AreMessages, IsTruncated}
 use Rattle.nl_attrs.specs.Messages.{all_spelled}
@@ -11,9 +10,9 @@ use Rattle.nl_attrs.specs.declared.fault.AttrFault.{AttrFault}
 use Rattle.nl_attrs.specs.declared.message.Msg.{Msg}
 use Rattle.core_runs.specs.Answered.{IsAnswered}
 use Rattle.core_runs.specs.Driven.{AreSteady}
-use Rattle.db_commands.specs.Devices.{Devices, HasFault, HasFileFault, input_limit}
+use Rattle.db_commands.specs.Devices.{Devices, HasFault}
 use Rattle.db_commands.specs.declared.status.Status.{Status}
-use Rattle.script_run.specs.Run.{EndsAtFile, HasDatabase}
+use Rattle.script_run.specs.Run.{EndsAtFile, HasDatabase, HasInputOver}
 use Rattle.wire_run.specs.Answering.{AreAnswers, MessageGives}
 use Rattle.wire_run.specs.Streaming.{IsStreamOf, IsWiring, stream_limit}
 
@@ -32,21 +31,9 @@ IsWireStatus d name status = EndsAtFile d name status ⊎ WiresOver d name statu
 
 -- ---- what comes of what is told
 
--- A database file was told that is accepted, and no file could not be read. Then a stream was told, and no read failed.
-pub record HasStream (words : List (String Global)) (d : Devices) (db : List Domain) (stream : List ℕ) : Type 0 where
-  pub name : List ℕ
-  pub form : NamesWire words name
-  pub bytes : List ℕ
-  pub told_file : d.files.before name ≡ Some bytes
-  pub files : HasFileFault d.files → ⊥
-  pub within : length bytes ≤ input_limit
-  pub accepted : ReadsAs bytes db
-  pub told : d.input.before ≡ Some stream
-  pub reads : HasFault d.input → ⊥
-
 -- Nothing keeps the stream from being answered: it is at most as long as the limit, it is the spellings of messages, and no write failed.
-pub record MayWire (words : List (String Global)) (d : Devices) (db : List Domain) (stream : List ℕ) (messages : List Msg) : Type 0 where
-  pub has_stream : HasStream words d db stream
+pub record MayWire (d : Devices) (name : List ℕ) (db : List Domain) (stream : List ℕ) (messages : List Msg) : Type 0 where
+  pub has_stream : HasInputOver d name db stream
   pub within : length stream ≤ stream_limit
   pub is : IsStreamOf stream messages
   pub writes : HasFault d.output → ⊥
@@ -62,3 +49,7 @@ abbrev pub IsStreamFault : List ℕ → ℕ → AttrFault → Type 0
 IsStreamFault stream place fault =
     (messages : List Msg) × (AreMessages stream messages (Some fault) ⊎ (AreMessages stream messages None × IsTruncated stream messages fault))
     × (place ≡ length (all_spelled messages))
+
+-- No message that begins within the limit has a fault.
+abbrev pub HasNoFault : List ℕ → Type 0
+HasNoFault stream = (messages : List Msg) × AreMessages (take stream_limit stream) messages None
