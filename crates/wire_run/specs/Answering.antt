@@ -16,7 +16,7 @@ use Rattle.nl80211_replies.specs.Dumps.{reply_messages}
 use Rattle.core_runs.specs.Given.{EachGives, HaveFailed}
 
 -- The message asks a request. It is answered by the messages of the one reply, one behind the other.
-pub record GivesReply (db : List Domain) (J : Journal) (m : Msg) (bytes failed : List ℕ) (next : Journal) : Type 0 where
+pub record IsAnsweredByReply (db : List Domain) (J : Journal) (m : Msg) (bytes failed : List ℕ) (next : Journal) : Type 0 where
   pub request : Request
   pub asks : MsgAsks m request
   pub reply : Reply
@@ -25,7 +25,7 @@ pub record GivesReply (db : List Domain) (J : Journal) (m : Msg) (bytes failed :
   pub is : bytes ≡ all_spelled (reply_messages m reply)
 
 -- The message asks nothing. It is answered by the errno that says why, and the journal stays.
-pub record GivesErrno (J : Journal) (m : Msg) (bytes failed : List ℕ) (next : Journal) : Type 0 where
+pub record IsAnsweredByErrno (J : Journal) (m : Msg) (bytes failed : List ℕ) (next : Journal) : Type 0 where
   pub errno : ℤ
   pub fault : IsRequestFault m (Errno errno)
   pub is : bytes ≡ spelled (error_answer m errno)
@@ -34,7 +34,7 @@ pub record GivesErrno (J : Journal) (m : Msg) (bytes failed : List ℕ) (next : 
 
 -- What a message gives, the radios whose drivers failed, and the next journal.
 abbrev pub MessageGives : List Domain → Journal → Msg → List ℕ → List ℕ → Journal → Type 0
-MessageGives db J m bytes failed next = GivesReply db J m bytes failed next ⊎ GivesErrno J m bytes failed next
+MessageGives db J m bytes failed next = IsAnsweredByReply db J m bytes failed next ⊎ IsAnsweredByErrno J m bytes failed next
 
 -- what messages give one behind the other, from the empty journal on, with no driver failing
 abbrev pub AreAnswers : List Domain → List Msg → List ℕ → Type 0
