@@ -1,5 +1,5 @@
 -- The lines that ended within a front of a script are the first of its lines.
-use Rattle.std.proofs.Common.{◌≡◌, ℕ, ◌==◌, Bool, true, false, List, [], ◌∷◌, ◌++◌, take, drop, Option, Some, None, inl, inr, refl, sym, ap, subst, ◌∙◌, append_assoc, append-nil, take-append-drop}
+use Rattle.std.proofs.Common.{◌≡◌, ℕ, ◌==◌, Bool, true, false, List, [], ◌∷◌, ◌++◌, take, drop, Some, inl, inr, refl, sym, ap, subst, ◌∙◌, append_assoc, append-nil, take-append-drop}
 use Rattle.iw_commands.specs.Scripts.{script_lines, without_empty_last}
 use Rattle.db_commands.specs.Devices.{StreamAround, script_limit}
 use Rattle.script_run.specs.Taken.{AreEnded, HasLines}

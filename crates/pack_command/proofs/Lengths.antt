@@ -4,7 +4,6 @@ use Rattle.std.proofs.lemmas.Grind.{flat_map-append}
 use Rattle.std.proofs.lemmas.List.{length-map}
 use Rattle.chan_def.specs.Covered.{width_number}
 use Rattle.chan_def.specs.declared.definition.ChanDef.{ChanDef}
-use Rattle.chan_def.specs.declared.kind.Kind.{Kind}
 use Rattle.chan_flags.specs.Profiles.{Abilities}
 use Rattle.chan_flags.specs.declared.verdict.PowerSetting.{PowerSetting}
 use Rattle.chan_flags.specs.declared.verdict.PowerSetting.TheVariants.{Auto, Limit, Fixed}
@@ -23,7 +22,7 @@ use Rattle.nl_attrs.proofs.Lengths.{length-attr_bytes, length-le32, length-le64,
 use Rattle.reg_journal.specs.Forms.{IsLineRequest}
 use Rattle.reg_journal.specs.Requests.{IsTyped}
 use Rattle.reg_journal.specs.declared.request.Request.{Request}
-use Rattle.reg_journal.specs.declared.request.Request.TheVariants.{RadioRules, Element, IfaceAdd, IfaceDel, SetType, SetPower, Start, Stop, Check, GetReg, IfaceInfo}
+use Rattle.reg_journal.specs.declared.request.Request.TheVariants.{RadioRules, Element, IfaceAdd, IfaceDel, SetType, SetPower, Start, Stop, Check, IfaceInfo}
 use Rattle.nl80211_cmds.specs.Commands.{command_number, family_number, family_of, fields_of}
 use Rattle.nl80211_cmds.specs.Drafts.{command_of, told_by}
 use Rattle.nl80211_cmds.specs.Fields.{chan_attrs, field_attrs, fields_attrs, power_attrs, profile_attrs, text_attr}

@@ -1,6 +1,6 @@
 -- What follows from the end of `wire`, where its database file and its stream are told: all answers, or the fault of the stream, or the
 -- length.
-use Rattle.std.proofs.Common.{◌≡◌, ℕ, ◌+◌, ◌<◌, ◌≤◌, ◌⊎◌, List, [], ◌++◌, length, take, Option, Some, None, inl, inr, refl, sym, ap, subst, ◌∙◌, arith}
+use Rattle.std.proofs.Common.{◌≡◌, ℕ, ◌+◌, ◌<◌, ◌≤◌, ◌⊎◌, List, [], ◌++◌, length, take, Some, None, inl, inr, refl, sym, ap, subst, ◌∙◌, arith}
 use Rattle.std.specs.Io.KnownBytes.{Appends}
 use Rattle.std.proofs.lemmas.List.{length-append, take_all}
 use Rattle.rule_tables.specs.FileFaults.{IsDbFault}
@@ -59,7 +59,7 @@ met_within : (d : Devices) (db : List Domain) (stream : List ℕ) (place : ℕ) 
     → HasTaken d.input (λ taken. MeetsStreamFault db place fault taken d.output d.drivers)
     → (messages : List Msg) × AreMessages (take stream_limit stream) messages (Some fault) × (place ≡ length (all_spelled messages))
 met_within d db stream place fault told met =
-    let (front, rest, parts, messages, are, stands, answered) = taken_within stream_limit d.input stream (λ taken. MeetsStreamFault db place fault taken d.output d.drivers) told met in
+    let (front, rest, parts, (messages, are, stands, answered)) = taken_within stream_limit d.input stream (λ taken. MeetsStreamFault db place fault taken d.output d.drivers) told met in
     (messages, subst (λ bytes. AreMessages bytes messages (Some fault)) (sym parts) (fault_ends front rest messages fault are), stands)
 
 -- and of all that is told, where that is within the limit
@@ -135,7 +135,7 @@ never_whole : (stream : List ℕ) (place : ℕ) (fault : AttrFault) (ms : List M
 never_whole stream place fault ms (ns, inl faulty, stands) is = no_fault stream ns ms fault faulty (whole stream ms is)
 never_whole stream place fault ms (ns, inr (are, truncated), stands) is = left_behind stream ns ms fault are truncated is
 
-refusal : ℕ → AttrFault → Status
+abbrev refusal : ℕ → AttrFault → Status
 refusal place fault = Refused (Wire place fault)
 
 -- the fault that was met is the stream's

@@ -1,5 +1,5 @@
 -- The messages of replies that can be shown aren't too long.
-use Rattle.std.proofs.Common.{◌≡◌, ℕ, ◌+◌, ◌*◌, ◌/◌, ◌<◌, ◌≤◌, Bool, true, List, [], ◌∷◌, ◌++◌, length, length-append, map, All, Option, Some, None, refl, sym, ap, subst, ◌∙◌, arith, ltb-true}
+use Rattle.std.proofs.Common.{◌≡◌, ℕ, ◌+◌, ◌*◌, ◌/◌, ◌≤◌, true, List, [], ◌∷◌, ◌++◌, length, length-append, map, All, Option, Some, None, refl, arith, ltb-true}
 use Rattle.std.specs.Prelude.{ℤ, nat_lt, pos, take}
 use Rattle.std.specs.Int.{w32, cast_unsigned}
 use Rattle.std.specs.List.{list_all}
@@ -21,7 +21,7 @@ use Rattle.nl_attrs.specs.Messages.{pid_of, seq_of, spelled}
 use Rattle.nl_attrs.specs.Nesting.{nested_with}
 use Rattle.nl_attrs.specs.declared.attr.Attr.{Attr}
 use Rattle.nl_attrs.specs.declared.message.Msg.{Msg}
-use Rattle.nl_attrs.specs.declared.message.Msg.TheVariants.{Generic, Error, Done}
+use Rattle.nl_attrs.specs.declared.message.Msg.TheVariants.{Generic, Done}
 use Rattle.nl_attrs.proofs.Lengths.{length-le32, length-le64, length-spelled}
 use Rattle.reg_journal.specs.Codes.{code_of_answer}
 use Rattle.reg_journal.specs.Forms.{IsShownAnswer, IsShownEffect, IsShownRefusal, IsShownReply, IsShownSection}
@@ -30,7 +30,7 @@ use Rattle.reg_journal.specs.declared.effects.Effect.TheVariants.{Stopped, Dropp
 use Rattle.reg_journal.specs.declared.refusal.Refusal.{Refusal}
 use Rattle.reg_journal.specs.declared.refusal.Refusal.TheVariants.{NoInterface, NameTaken, Full}
 use Rattle.reg_journal.specs.declared.reply.Answer.{Answer}
-use Rattle.reg_journal.specs.declared.reply.Answer.TheVariants.{Ok, Hint, Started, Checking, Refused}
+use Rattle.reg_journal.specs.declared.reply.Answer.TheVariants.{Started, Checking, Refused}
 use Rattle.reg_journal.specs.declared.reply.Reply.{Reply}
 use Rattle.reg_journal.specs.declared.reply.Reply.TheVariants.{Plain, Regs, Channels, Radio, Iface}
 use Rattle.reg_journal.specs.declared.report.IfaceReport.{IfaceReport}

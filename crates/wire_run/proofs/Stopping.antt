@@ -1,26 +1,23 @@
 -- What the command ends with, by where the reading or the answering of messages stopped.
-use Rattle.std.proofs.Common.{◌≡◌, ℕ, ◌+◌, ◌<◌, ◌≤◌, min, List, [], ◌++◌, append_assoc, length, take, All, Option, None, inl, inr, refl, sym, ap, subst, ◌∙◌}
+use Rattle.std.proofs.Common.{◌≡◌, ℕ, ◌+◌, ◌<◌, ◌≤◌, min, List, [], ◌++◌, append_assoc, length, take, Option, None, inl, inr, ap, ◌∙◌}
 use Rattle.std.specs.Io.KnownBytes.{Consumes, IsAtEnd, Keeps}
 use Rattle.reg_base.specs.Causes.{Rose}
 use Rattle.rule_tables.specs.declared.domain.Domain.{Domain}
-use Rattle.radio_drv.specs.Seen.{Seen}
-use Rattle.reg_core.specs.Kept.{StandsFor}
 use Rattle.reg_core.specs.declared.core_state.Core.{Core}
 use Rattle.nl_attrs.specs.Messages.{all_spelled}
 use Rattle.nl_attrs.specs.Streams.{Decoding}
 use Rattle.nl_attrs.specs.declared.message.Msg.{Msg}
 use Rattle.core_runs.specs.Answered.{IsAnswered, StopsBetween}
 use Rattle.core_runs.proofs.Turning.{ends_whole}
-use Rattle.db_commands.specs.Devices.{DriversAround, StreamAround, IsRead}
+use Rattle.db_commands.specs.Devices.{DriversAround, StreamAround}
 use Rattle.db_commands.specs.declared.status.InputFault.TheVariants.{Wire}
 use Rattle.db_commands.specs.declared.status.Status.{Status}
-use Rattle.db_commands.specs.declared.status.Status.TheVariants.{Done, Usage, Refused, ReadFault, WriteFault, TooLong, NoMemory as EndsNoMemory}
+use Rattle.db_commands.specs.declared.status.Status.TheVariants.{Done, Refused, ReadFault, TooLong, NoMemory as EndsNoMemory}
 use Rattle.script_run.proofs.Pieces.{ReadsOn, rose_since}
 use Rattle.pack_command.proofs.Reading.{is_longer, read_at_end, taken_among, taken_at_fault}
 use Rattle.wire_run.specs.Answering.{MessageGives}
-use Rattle.wire_run.specs.Streaming.{BeginsWith, EndsEarly, HasAnswered, IsStreamOf, IsWiring, MeetsStreamFault, stream_limit}
-use Rattle.wire_run.specs.inner.Steps.{HasMessageCause, HasStreamCause, IsEndStatus, IsMessageHalt, IsStreamStop, IsWholeSoFar, status_of_stream_stop}
-use Rattle.wire_run.specs.declared.answering.Halt.{Halt}
+use Rattle.wire_run.specs.Streaming.{BeginsWith, EndsEarly, HasAnswered, IsStreamOf, IsWiring}
+use Rattle.wire_run.specs.inner.Steps.{HasStreamCause, IsEndStatus, IsStreamStop, IsWholeSoFar, status_of_stream_stop}
 use Rattle.wire_run.specs.declared.answering.Halt.TheVariants.{NoMemory, WriteFault as HaltsAtWrite}
 use Rattle.wire_run.specs.declared.stream.Stop.{Stop}
 use Rattle.wire_run.specs.declared.stream.Stop.TheVariants.{Halted, Faulty}

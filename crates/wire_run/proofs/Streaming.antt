@@ -1,23 +1,23 @@
 -- Messages that a decoder gives one after the other, and what a stream then comes to.
-use Rattle.std.proofs.Common.{◌≡◌, ℕ, ◌+◌, ◌<◌, ◌≤◌, List, [], ◌∷◌, ◌++◌, append_assoc, append-nil, length, length-append, All, Option, Some, None, MatchOption, Result, Ok, Err, inl, inr, refl, sym, ap, subst, ◌∙◌, arith}
+use Rattle.std.proofs.Common.{◌≡◌, ℕ, ◌+◌, ◌<◌, List, [], ◌∷◌, ◌++◌, append-nil, length, length-append, Option, Some, None, MatchOption, Result, Ok, Err, inl, refl, ap, subst, ◌∙◌, arith}
 use Rattle.std.proofs.lemmas.List.Elements.{All-nil}
 use Rattle.rule_tables.specs.declared.domain.Domain.{Domain}
 use Rattle.radio_drv.specs.Seen.{Seen}
 use Rattle.reg_core.specs.declared.core_state.Core.{Core}
 use Rattle.nl_attrs.specs.Faults.{IsFault}
 use Rattle.nl_attrs.specs.Messages.{IsMsg, all_spelled, spelled}
-use Rattle.nl_attrs.specs.Streams.{AreMessages, Decoding, GivesNext, HasGiven, IsTruncated, TakesMsg, with_piece, held_with}
+use Rattle.nl_attrs.specs.Streams.{AreMessages, Decoding, GivesNext, HasGiven, TakesMsg, with_piece, held_with}
 use Rattle.nl_attrs.specs.declared.fault.AttrFault.{AttrFault}
 use Rattle.nl_attrs.specs.declared.fault.AttrFault.TheVariants.{Truncated}
 use Rattle.nl_attrs.specs.declared.fault.NextFault.{NextFault}
-use Rattle.nl_attrs.specs.declared.fault.NextFault.TheVariants.{Bad, OutOfMemory}
+use Rattle.nl_attrs.specs.declared.fault.NextFault.TheVariants.{Bad}
 use Rattle.nl_attrs.specs.declared.message.Msg.{Msg}
 use Rattle.core_runs.specs.Driven.{IsAt}
 use Rattle.core_runs.specs.Turns.{IsRunSoFar}
 use Rattle.core_runs.proofs.Turning.{ends_whole, so_far_none}
 use Rattle.db_commands.specs.Devices.{DriversAround, StreamAround}
 use Rattle.wire_run.specs.Answering.{MessageGives}
-use Rattle.wire_run.specs.Streaming.{BeginsWith, EndsEarly, HasAnswered, MeetsStreamFault}
+use Rattle.wire_run.specs.Streaming.{BeginsWith, EndsEarly, HasAnswered}
 use Rattle.wire_run.specs.inner.Steps.{IsMessageHalt, IsFedSoFar, IsStreamStop, IsWholeSoFar}
 use Rattle.wire_run.specs.declared.answering.Halt.{Halt}
 use Rattle.wire_run.specs.declared.answering.Halt.TheVariants.{NoMemory}

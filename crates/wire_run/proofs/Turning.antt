@@ -1,5 +1,5 @@
 -- What a message does, and where the core then stands.
-use Rattle.std.proofs.Common.{◌≡◌, ℕ, ◌≤◌, ◌⊎◌, Bool, true, false, is_err, of_z, to_z, w32, List, [], ◌∷◌, ◌++◌, append-nil, length, Option, Result, Ok, Err, inl, inr, OnOk, OnErr, refl, sym, ap, subst, arith}
+use Rattle.std.proofs.Common.{◌≡◌, ℕ, ◌⊎◌, Bool, true, false, is_err, of_z, to_z, w32, List, [], ◌∷◌, ◌++◌, append-nil, length, Option, Result, Ok, Err, inl, inr, OnOk, OnErr, refl, sym, ap, subst, arith}
 use Rattle.std.specs.Prelude.{ℤ}
 use Rattle.std.proofs.lemmas.List.{length-map}
 use Rattle.rule_tables.specs.declared.domain.Domain.{Domain}
@@ -14,7 +14,7 @@ use Rattle.reg_journal.specs.Facts.{Fact, Journal}
 use Rattle.reg_journal.specs.Forms.{IsLineRequest, IsShownReply}
 use Rattle.reg_journal.specs.Present.{ifaces_on}
 use Rattle.reg_journal.specs.Refusals.{LacksRadio}
-use Rattle.reg_journal.specs.Replies.{IsRegular, Replies, Shows, at_first, one_more}
+use Rattle.reg_journal.specs.Replies.{Replies, Shows, at_first, one_more}
 use Rattle.reg_journal.specs.Requests.{IsTyped}
 use Rattle.reg_journal.specs.declared.reply.Reply.{Reply}
 use Rattle.reg_journal.specs.declared.reply.Reply.TheVariants.{Radio}

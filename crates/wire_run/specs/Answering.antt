@@ -1,5 +1,5 @@
 -- What a message gives: the messages of its reply, or the errno where it asks nothing.
-use Rattle.std.specs.Prelude.{◌≡◌, ℕ, ℤ, ◌⊎◌, List, [], ◌∷◌, ◌++◌}
+use Rattle.std.specs.Prelude.{◌≡◌, ℕ, ℤ, ◌⊎◌, List, []}
 use Rattle.rule_tables.specs.declared.domain.Domain.{Domain}
 use Rattle.reg_journal.specs.Facts.{Journal}
 use Rattle.reg_journal.specs.Replies.{Steps}

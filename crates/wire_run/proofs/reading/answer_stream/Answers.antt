@@ -1,4 +1,4 @@
-use Rattle.std.proofs.Common.{[], ◌++◌, ◌≡◌, ◌+◌, ◌-◌, ℕ, List, length, length-take-le, le_trans, min, refl, subst, sym, take, arith}
+use Rattle.std.proofs.Common.{[], ◌++◌, ◌≡◌, ◌+◌, ◌-◌, ℕ, List, length-take-le, le_trans, min, refl, subst, sym, take, arith}
 use Rattle.std.proofs.KnownBytes.{Consumes-nil}
 use Rattle.std.specs.Io.KnownBytes.{Consumes, IsAtEnd}
 use Rattle.rule_tables.specs.declared.domain.Domain.{Domain}

@@ -1,7 +1,7 @@
 use Rattle.std.proofs.Common.{◌∙◌, IfSome, Ok, Err, ap, le_trans, subst}
 use Rattle.db_commands.specs.Devices.{around, driven}
 use Rattle.nl_attrs.specs.Streams.{TakesMsg}
-use Rattle.wire_run.proofs.Streaming.{fewer_held, halts_between, halts_message, kept_taken, meets_fault, takes_all, takes_message}
+use Rattle.wire_run.proofs.Streaming.{halts_between, halts_message, kept_taken, meets_fault, takes_all, takes_message}
 use Rattle.wire_run.proofs.stream.answer_held.Goals as goal
 
 pub returns-in-Ok-None-clause-answered : goal.returns-in-Ok-None-clause-answered
