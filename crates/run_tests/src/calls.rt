@@ -31,9 +31,6 @@ country US: DFS-FCC
 \t(5250 - 5350 @ 80), (24), DFS, AUTO-BW
 ";
 
-/// A line of a script, and its reply.
-pub type Row<'a> = (&'a str, &'a str);
-
 /// A script over the database of a text.
 pub struct Case<'a> {
     /// What it shows.
@@ -43,8 +40,8 @@ pub struct Case<'a> {
     /// The calls at which the first driver fails, and how often it does.
     pub failing: &'a [u64],
     pub faults: u64,
-    /// The script's lines and their replies.
-    pub rows: &'a [Row<'a>],
+    /// A line of the script behind `> `, and the lines of its reply below it.
+    pub transcript: &'a str,
 }
 
 /// A copy of the bytes.
@@ -88,32 +85,50 @@ pub fn call<F: Files, S: Source, K: Sink>(
     Ok((status, faults))
 }
 
+/// The script of a transcript.
+fn script_of(alloc: Global, transcript: &str) -> Result<Bytes, Fail> {
+    let mut script = Bytes::new(alloc);
+    for line in transcript.split('\n') {
+        if let Some(asked) = line.strip_prefix("> ") {
+            script.append(asked.as_bytes())?;
+            script.push(b'\n')?;
+        }
+    }
+    Ok(script)
+}
+
 /// Each script is answered line by line.
 pub fn replies(rt: &impl Abort, alloc: Global, cases: &[Case<'_>]) -> Result<(), Fail> {
     for case in cases {
-        let mut script = Bytes::new(alloc);
-        for (line, _reply) in case.rows {
-            script.append(line.as_bytes())?;
-            script.push(b'\n')?;
-        }
         let mut files = MemFiles::new(alloc, NAME, database(alloc, case.text)?)?;
+        let script = script_of(alloc, case.transcript)?;
         let mut input = StdSource::new(script.as_slice());
         let mut out = MemSink::new(alloc, ROOM)?;
         let (status, faults) = call(alloc, case.failing, &mut files, &mut input, &mut out)?;
         assert!(rt; status == Status::Done, "{}", case.name);
         assert!(rt; faults == case.faults, "{}", case.name);
-        stand_in_order(rt, case.name, out.written(), case.rows);
+        stand_in_order(rt, case.name, out.written(), case.transcript);
     }
     Ok(())
 }
 
-/// The bytes are the replies of the rows, one behind the other.
-fn stand_in_order(rt: &impl Abort, name: &str, written: &[u8], rows: &[Row<'_>]) {
+/// The bytes are the replies of the transcript, one behind the other.
+fn stand_in_order(rt: &impl Abort, name: &str, written: &[u8], transcript: &str) {
+    let mut asked = "";
     let mut left = written;
-    for (line, reply) in rows {
-        let rest = left.strip_prefix(reply.as_bytes());
-        assert!(rt; rest.is_some(), "{name}: {line}");
+    for line in transcript.split('\n') {
+        if line.is_empty() || line.strip_prefix("> ").is_some() {
+            asked = line;
+            continue;
+        }
+        let rest = after_line(left, line);
+        assert!(rt; rest.is_some(), "{name}: {asked}");
         left = rest.unwrap_or(b"");
     }
     assert!(rt; left.is_empty(), "{name}: behind the last line");
+}
+
+/// What stands behind this line, where it stands first.
+fn after_line<'a>(bytes: &'a [u8], line: &str) -> Option<&'a [u8]> {
+    bytes.strip_prefix(line.as_bytes())?.strip_prefix(b"\n")
 }
