@@ -18,13 +18,14 @@ use reg_journal::{
     Answer, ChanList, Effect, Effects, HintAnswer, IfaceList, IfaceReport, IfaceState, RadioReport,
     Refusal, Reply, RowList, Section, SectionList,
 };
+use reply_reading::reply_of;
 use rule_intersect::Row;
 use rule_tables::{Alpha2, Region};
 use std::alloc::Global;
 use std::process::Abort;
 use std::test::Fail;
 
-/// The reply to the request has these messages.
+/// The reply to the request has these messages, and is read back from them.
 fn is_told<R: Abort>(
     rt: &R,
     alloc: Global,
@@ -36,11 +37,13 @@ fn is_told<R: Abort>(
 {
     let request = message_of(alloc, request)?;
     let mut bytes = Bytes::new(alloc);
-    for msg in msgs_of_reply(alloc, &request, reply)?.as_slice() {
+    let msgs = msgs_of_reply(alloc, &request, reply)?;
+    for msg in msgs.as_slice() {
         put_message(&mut bytes, msg)?;
     }
     let wanted = bytes_of(alloc, wanted)?;
     assert!(rt; bytes.as_slice() == wanted.as_slice(), "{reply:?}");
+    assert!(rt; reply_of(alloc, &msgs).is_ok(), "{reply:?}");
     Ok(())
 }
 

@@ -1,5 +1,5 @@
 -- Answers and effects are those that attributes tell.
-use Rattle.std.proofs.Common.{◌≡◌, ℕ, ◌/◌, ◌%◌, ◌^◌, ◌<◌, ◌≤◌, List, [], ◌∷◌, ◌++◌, ap, refl, sym, subst, ◌∙◌, arith}
+use Rattle.std.proofs.Common.{◌≡◌, ℕ, ◌/◌, ◌%◌, ◌^◌, ◌<◌, ◌≤◌, List, ◌∷◌, ◌++◌, ap, refl, subst, ◌∙◌, arith}
 use Rattle.rule_tables.specs.declared.code.Alpha2.{Alpha2}
 use Rattle.radio_drv.specs.Names.{IsName}
 use Rattle.nl_attrs.specs.Endian.{le32, le64}

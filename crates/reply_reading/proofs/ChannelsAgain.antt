@@ -1,12 +1,10 @@
 -- Channels are those that attributes tell.
-use Rattle.std.proofs.Common.{◌≡◌, ℕ, ◌/◌, ◌^◌, ◌<◌, ◌≤◌, List, [], ◌∷◌, ◌++◌, length, drop, Option, None, Some, IfSome, ap, refl, subst, ◌∙◌, arith}
+use Rattle.std.proofs.Common.{◌≡◌, ℕ, ◌/◌, ◌<◌, ◌≤◌, List, ◌++◌, length, drop, Option, None, Some, IfSome, ap, arith}
 use Rattle.chan_flags.specs.declared.record.Chan.{Chan}
 use Rattle.chan_flags.specs.declared.record.Fit.{Fit}
 use Rattle.dfs_states.specs.declared.dfs.Dfs.{Dfs}
 use Rattle.dfs_states.specs.declared.dfs.Dfs.TheVariants.{Usable, Unavailable, Available}
 use Rattle.nl_attrs.specs.declared.attr.Attr.{Attr}
-use Rattle.nl80211_cmds.specs.Values.{number_attr}
-use Rattle.nl80211_cmds.specs.declared.attribute.TheConstants.{FREQ, RADIO}
 use Rattle.nl80211_replies.specs.Dumps.{channel_attrs, dfs_attrs, fit_attrs}
 use Rattle.reply_reading.specs.Typed.{IsTypedDfs, IsTypedFit}
 use Rattle.reply_reading.specs.inner.Reading.{IsToldChannel, Undoes, payload_at}
@@ -14,7 +12,7 @@ use Rattle.reply_reading.specs.inner.Values.{khz_of}
 use Rattle.reply_reading.proofs.AnswersAgain.{Numbers32}
 use Rattle.reply_reading.proofs.Numbered.{khz_is}
 
-dfs_few : (dfs : Dfs) → length (dfs_attrs dfs) ≤ 2
+pub dfs_few : (dfs : Dfs) → length (dfs_attrs dfs) ≤ 2
 dfs_few Usable = omega arith
 dfs_few (Unavailable until) = omega arith
 dfs_few (Available since) = omega arith

@@ -1,5 +1,5 @@
 -- What nested attributes hold are attributes.
-use Rattle.std.proofs.Common.{◌≡◌, ℕ, ◌+◌, ◌/◌, ◌<◌, ◌≤◌, List, [], ◌∷◌, ◌++◌, length, map, All, arith}
+use Rattle.std.proofs.Common.{ℕ, ◌+◌, ◌/◌, ◌<◌, ◌≤◌, List, [], ◌∷◌, ◌++◌, length, map, All, arith}
 use Rattle.std.proofs.lemmas.List.{length-append}
 use Rattle.std.proofs.lemmas.List.Elements.{All-append, All-cons, All-head, All-nil, All-tail, All-weaker}
 use Rattle.chan_def.specs.Covered.{width_number}
@@ -7,7 +7,7 @@ use Rattle.chan_def.specs.declared.definition.ChanDef.{ChanDef}
 use Rattle.chan_def.specs.declared.kind.Kind.{Kind}
 use Rattle.chan_flags.specs.Profiles.{Abilities}
 use Rattle.rule_intersect.specs.declared.row.Row.{Row}
-use Rattle.nl_attrs.specs.Attributes.{IsAttr, attr_bytes, attrs_bytes}
+use Rattle.nl_attrs.specs.Attributes.{IsAttr, attrs_bytes}
 use Rattle.nl_attrs.specs.Endian.{AreBytes}
 use Rattle.nl_attrs.specs.Nesting.{nested_with}
 use Rattle.nl_attrs.specs.declared.attr.Attr.{Attr}
@@ -25,7 +25,7 @@ use Rattle.nl80211_cmds.specs.declared.attribute.TheConstants.{BANDS, CENTRE, CO
 use Rattle.nl80211_cmds.specs.declared.limits.Limits.{Limits}
 use Rattle.nl80211_cmds.proofs.RuleBytes.{limit_length}
 use Rattle.nl80211_replies.specs.Dumps.{iface_attr, limits_of_row, state_attrs}
-use Rattle.nl80211_replies.specs.Plain.{effect_code, effect_list, effect_name, effect_power, wide_attr}
+use Rattle.nl80211_replies.specs.Plain.{effect_list, wide_attr}
 use Rattle.nl80211_replies.specs.declared.attribute.TheConstants.{CODE, KIND, NAME, STATE}
 use Rattle.reply_reading.specs.Typed.{IsTypedEffect, IsTypedIface}
 use Rattle.reply_reading.specs.inner.Reading.{IsToldRow, iface_list, row_attrs}

@@ -1,11 +1,11 @@
 -- The heads of requests.
-use Rattle.std.proofs.Common.{◌≡◌, ℕ, suc, zero, ◌+◌, ◌-◌, ◌/◌, ◌%◌, ◌^◌, ◌<◌, ◌≤◌, List, [], ◌∷◌, ◌++◌, length, take, drop, replicate, All, Option, None, Some, MatchOption, IsSomeAnd, ◌≢◌, append_assoc, ap, refl, sym, subst, ◌∙◌, arith}
-use Rattle.std.proofs.lemmas.List.{append-nil, drop_all, drop_at, length-append, length-drop, length-replicate, length-take, take_at}
+use Rattle.std.proofs.Common.{◌≡◌, ℕ, suc, zero, ◌-◌, ◌%◌, ◌^◌, ◌<◌, ◌≤◌, List, [], ◌∷◌, ◌++◌, length, take, drop, replicate, All, Option, None, Some, MatchOption, IsSomeAnd, ◌≢◌, append_assoc, ap, refl, sym, subst, ◌∙◌, arith}
+use Rattle.std.proofs.lemmas.List.{append-nil, drop_all, drop_at, length-append, length-replicate, take_at}
 use Rattle.std.proofs.lemmas.List.Elements.{All-cons, All-nil, All-replicate}
 use Rattle.std.proofs.lemmas.Option.{same_Some}
 use Rattle.nl_attrs.specs.Attributes.{IsAttr, attrs_bytes}
-use Rattle.nl_attrs.specs.Endian.{AreBytes, le16, le32, le16_at}
-use Rattle.nl_attrs.specs.Messages.{FitsBody, IsMsg, head_bytes, header_flags, pid_of, seq_of, spelled, type_of}
+use Rattle.nl_attrs.specs.Endian.{le16, le32, le16_at}
+use Rattle.nl_attrs.specs.Messages.{head_bytes, header_flags, pid_of, seq_of, spelled, type_of}
 use Rattle.nl_attrs.specs.declared.attr.Attr.{Attr}
 use Rattle.nl_attrs.specs.declared.message.Msg.{Msg}
 use Rattle.nl_attrs.specs.declared.message.Msg.TheVariants.{Generic, Error, Done}
@@ -15,7 +15,7 @@ use Rattle.nl_attrs.proofs.MsgLaws.{length-msg, words-msg}
 use Rattle.nl_attrs.proofs.Places.{IsBytes, cut, le16-u16_at, u16_at-lt}
 use Rattle.nl80211_cmds.specs.Values.{plain_attr}
 use Rattle.reply_reading.specs.Replies.{IsRequest}
-use Rattle.reply_reading.specs.inner.Compared.{IsHeadSaid, IsRequestHead}
+use Rattle.reply_reading.specs.inner.Compared.{IsRequestHead}
 
 -- ---- a request of a given length
 

@@ -10,3 +10,6 @@ pub mod ReportsAgain
 pub mod ShownAgain
 pub mod Heads
 pub mod WrittenAgain
+pub mod OneValue
+pub mod OneReport
+pub mod OneReply

@@ -10,7 +10,6 @@ use Rattle.chan_def.specs.declared.kind.Kind.{Kind}
 use Rattle.chan_def.specs.declared.kind.Kind.TheVariants.{Ap, Ibss, Mesh, Station, Monitor}
 use Rattle.chan_def.specs.declared.width.Width.{Width}
 use Rattle.chan_def.specs.declared.width.Width.TheVariants.{Noht, W20, W40, W80, W160, W320}
-use Rattle.chan_flags.specs.Profiles.{Abilities}
 use Rattle.chan_flags.specs.declared.profile.Bands.{Bands}
 use Rattle.reg_journal.specs.Forms.{IsWholeMhz}
 use Rattle.nl80211_cmds.specs.Rules.{flag_bits}

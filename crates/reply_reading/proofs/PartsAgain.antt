@@ -1,9 +1,8 @@
 -- What dumps show is what attributes tell.
-use Rattle.std.proofs.Common.{◌≡◌, ℕ, ◌+◌, ◌*◌, ◌/◌, ◌%◌, ◌^◌, ◌<◌, ◌≤◌, ◌==◌, Bool, List, [], ◌∷◌, ◌++◌, length, Option, None, Some, MatchOption, IsTrue, ap, refl, sym, subst, ◌∙◌, arith}
+use Rattle.std.proofs.Common.{◌≡◌, ℕ, ◌/◌, ◌%◌, ◌^◌, ◌<◌, ◌==◌, List, ◌∷◌, ◌++◌, Option, None, Some, MatchOption, IsTrue, ap, sym, subst, ◌∙◌, arith}
 use Rattle.rule_intersect.specs.declared.row.Row.{Row}
 use Rattle.chan_def.specs.declared.definition.ChanDef.{ChanDef}
 use Rattle.chan_flags.specs.Profiles.{Abilities, IsProfile, abilities, is_width}
-use Rattle.chan_flags.specs.declared.profile.Bands.{Bands}
 use Rattle.chan_flags.specs.declared.record.Fit.{Fit}
 use Rattle.nl_attrs.specs.declared.attr.Attr.{Attr}
 use Rattle.reg_journal.specs.declared.report.IfaceState.{IfaceState}

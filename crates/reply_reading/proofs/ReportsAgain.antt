@@ -1,5 +1,5 @@
 -- Sections, radios and interfaces are those that attributes tell.
-use Rattle.std.proofs.Common.{◌≡◌, ℕ, ◌+◌, ◌%◌, ◌/◌, ◌^◌, ◌<◌, ◌≤◌, List, [], ◌∷◌, ◌++◌, length, map, drop, All, Option, None, Some, IfSome, ap, refl, sym, subst, ◌∙◌, arith}
+use Rattle.std.proofs.Common.{◌≡◌, ℕ, ◌+◌, ◌%◌, List, [], ◌∷◌, ◌++◌, map, drop, All, Option, None, Some, IfSome, ap, refl, ◌∙◌, arith}
 use Rattle.std.proofs.lemmas.List.{length-map}
 use Rattle.std.proofs.lemmas.List.Elements.{All-cons, All-head, All-nil, All-tail}
 use Rattle.std.proofs.lemmas.Option.{same_Some}
@@ -9,7 +9,6 @@ use Rattle.rule_tables.specs.declared.code.Alpha2.{Alpha2}
 use Rattle.chan_def.specs.declared.kind.Kind.{Kind}
 use Rattle.chan_flags.specs.Profiles.{Abilities, IsProfile}
 use Rattle.chan_flags.specs.declared.verdict.PowerSetting.{PowerSetting}
-use Rattle.chan_flags.specs.declared.verdict.PowerSetting.TheVariants.{Auto, Limit, Fixed}
 use Rattle.nl_attrs.specs.Attributes.{IsAttr, attrs_bytes}
 use Rattle.nl_attrs.specs.Nesting.{nested_with}
 use Rattle.nl_attrs.specs.declared.attr.Attr.{Attr}
@@ -33,11 +32,11 @@ use Rattle.reply_reading.proofs.Numbered.{iftype_small, kind_again, radio_is, re
 
 -- ---- sections
 
-row_payloads : (k : ℕ) (rows : List Row) → map payload_in (nested_limits k (map limits_of_row rows)) ≡ map row_payload rows
+pub row_payloads : (k : ℕ) (rows : List Row) → map payload_in (nested_limits k (map limits_of_row rows)) ≡ map row_payload rows
 row_payloads k [] = refl
 row_payloads k (row ∷ rows) = ap (λ (xs : List (List ℕ)). row_payload row ∷ xs) (row_payloads (k + 1) rows)
 
-rows_told : (rows : List Row) → All IsTypedRow rows → All (λ (row : Row). row.check_ms ≡ 0) rows → All IsToldRow rows
+pub rows_told : (rows : List Row) → All IsTypedRow rows → All (λ (row : Row). row.check_ms ≡ 0) rows → All IsToldRow rows
 rows_told [] typed none = All-nil IsToldRow
 rows_told (row ∷ rows) typed none =
     All-cons IsToldRow row rows (record { typed = All-head IsTypedRow row rows typed; unchecked = All-head (λ (row : Row). row.check_ms ≡ 0) row rows none })

@@ -1,6 +1,5 @@
 -- The reply that messages show is the one that they are of.
-use Rattle.std.proofs.Common.{◌≡◌, ℕ, ◌+◌, ◌%◌, ◌^◌, ◌<◌, ◌≤◌, List, [], ◌∷◌, ◌++◌, length, map, get_or, All, Option, None, Some, ap, refl, sym, ◌∙◌, arith}
-use Rattle.std.proofs.lemmas.Option.{same_Some}
+use Rattle.std.proofs.Common.{◌≡◌, ℕ, ◌%◌, List, [], ◌∷◌, ◌++◌, map, get_or, All, Option, Some, ap, refl, ◌∙◌, arith}
 use Rattle.chan_flags.specs.declared.record.Chan.{Chan}
 use Rattle.dfs_states.specs.declared.dfs.Dfs.{Dfs}
 use Rattle.nl_attrs.specs.Messages.{attrs_in}
@@ -26,7 +25,7 @@ use Rattle.reply_reading.proofs.Numbered.{radio_is}
 
 -- ---- what is shown
 
-shows : (request : Msg) (reply : Reply) (d e : Msg) → CanBeTold reply → shown_by (get_or (reply_messages request reply) 0 d) (get_or (reply_messages request reply) 1 e) ≡ shown_of reply
+pub shows : (request : Msg) (reply : Reply) (d e : Msg) → CanBeTold reply → shown_by (get_or (reply_messages request reply) 0 d) (get_or (reply_messages request reply) 1 e) ≡ shown_of reply
 shows request (Plain answer effects) d e told = refl
 shows request (Regs []) d e told = absurd (omega (arith, told.0))
 shows request (Regs (s ∷ [])) d e told = refl
@@ -50,7 +49,7 @@ shown_is request reply msgs first second told e at0 at1 =
 
 -- ---- lists
 
-all_with : {X : Type 0} (P Q R : X → Type 0) → ((x : X) → P x → Q x → R x) → (xs : List X) → All P xs → All Q xs → All R xs
+pub all_with : {X : Type 0} (P Q R : X → Type 0) → ((x : X) → P x → Q x → R x) → (xs : List X) → All P xs → All Q xs → All R xs
 all_with P Q R both xs ps qs = λ k d lt. both (get_or xs k d) (ps k d lt) (qs k d lt)
 
 dumped : (request : Msg) (family command : ℕ) (shown : List (List Attr)) → map attrs_in (map (dump_message request family command) shown) ≡ shown

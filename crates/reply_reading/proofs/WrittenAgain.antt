@@ -1,12 +1,11 @@
 -- The messages of a reply are those that are written for a bare request, but for heads.
-use Rattle.std.proofs.Common.{◌≡◌, ℕ, ◌<◌, ◌≤◌, ◌^◌, List, [], ◌∷◌, ◌++◌, length, map, get_or, take, All, ap, pos, refl, sym, subst, ◌∙◌, arith}
-use Rattle.std.specs.List.{AllZip}
+use Rattle.std.proofs.Common.{◌≡◌, ℕ, ◌<◌, ◌≤◌, ◌^◌, List, [], ◌∷◌, length, map, get_or, take, ap, refl, sym, ◌∙◌, arith}
 use Rattle.std.proofs.lemmas.List.Elements.{All-nil}
 use Rattle.nl_attrs.specs.Attributes.{IsAttr}
-use Rattle.nl_attrs.specs.Messages.{IsMsg, pid_of, seq_of, spelled}
+use Rattle.nl_attrs.specs.Messages.{pid_of, seq_of, spelled}
 use Rattle.nl_attrs.specs.declared.attr.Attr.{Attr}
 use Rattle.nl_attrs.specs.declared.message.Msg.{Msg}
-use Rattle.nl_attrs.specs.declared.message.Msg.TheVariants.{Done, Error, Generic}
+use Rattle.nl_attrs.specs.declared.message.Msg.TheVariants.{Error, Generic}
 use Rattle.nl_attrs.proofs.HeadLaws.{length-generic}
 use Rattle.reg_journal.specs.declared.reply.Reply.{Reply}
 use Rattle.reg_journal.specs.declared.reply.Reply.TheVariants.{Plain, Regs, Channels, Radio as OfRadio, Iface}
@@ -14,7 +13,7 @@ use Rattle.nl80211_replies.specs.Dumps.{channel_attrs, dump_messages, iface_attr
 use Rattle.nl80211_replies.specs.Plain.{answer_errno, plain_attrs}
 use Rattle.nl80211_replies.specs.declared.attribute.TheConstants.{REPLY, VERSION}
 use Rattle.reply_reading.specs.Replies.{AreReply, CanBeTold, IsRequest}
-use Rattle.reply_reading.specs.inner.Compared.{AreWritten, IsRequestHead, IsWritten, bare_request}
+use Rattle.reply_reading.specs.inner.Compared.{AreWritten, bare_request}
 
 -- ---- a bare request
 

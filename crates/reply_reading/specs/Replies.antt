@@ -6,7 +6,6 @@ use Rattle.nl_attrs.specs.Messages.{IsMsg}
 use Rattle.nl_attrs.specs.declared.message.Msg.{Msg}
 use Rattle.nl_attrs.specs.declared.message.Msg.TheVariants.{Generic}
 use Rattle.reg_journal.specs.Forms.{IsShownAnswer, IsShownSection, IsShownState, IsWholeMhz}
-use Rattle.reg_journal.specs.declared.report.IfaceReport.{IfaceReport}
 use Rattle.reg_journal.specs.declared.reply.Reply.{Reply}
 use Rattle.reg_journal.specs.declared.reply.Reply.TheVariants.{Plain, Regs, Channels, Radio as OfRadio, Iface}
 use Rattle.nl80211_replies.specs.Dumps.{reply_messages}

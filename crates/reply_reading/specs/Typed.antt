@@ -1,5 +1,5 @@
 -- What the types say of a reply's parts: each number fits its field, a radio's number is at most 7, a name has 1 to 15 visible bytes.
-use Rattle.std.specs.Prelude.{ℕ, ◌^◌, ◌<◌, ◌≤◌, List, length, All, Option, None, Some, IfSome}
+use Rattle.std.specs.Prelude.{ℕ, ◌^◌, ◌<◌, ◌≤◌, List, length, All, IfSome}
 use Rattle.rule_intersect.specs.declared.row.Row.{Row}
 use Rattle.chan_def.specs.declared.kind.Kind.{Kind}
 use Rattle.chan_flags.specs.Profiles.{IsProfile}

@@ -11,6 +11,7 @@ mod compare;
 mod effects;
 mod fault;
 mod interfaces;
+mod laws;
 mod narrow;
 mod payloads;
 mod radios;
@@ -22,4 +23,5 @@ mod told;
 mod values;
 
 pub use fault::ReplyFault;
+pub use laws::replies_read_back;
 pub use reading::reply_of;

@@ -34,7 +34,8 @@ fn bare_request(alloc: Global, seq: u32, pid: u32) -> Msg
     }
 }
 
-/// The reply whose messages these are.
+/// The reply whose messages these are. `NotAReply` where they are no reply's to any request, and
+/// `OutOfMemory` else.
 pub fn reply_of(alloc: Global, msgs: &MsgList) -> Result<Reply, ReplyFault>
     // They are those of the reply that is given, to some request.
     ensures reply { IfOk result (AreReply msgs.now) }

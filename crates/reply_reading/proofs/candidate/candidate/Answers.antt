@@ -1,4 +1,4 @@
-use Rattle.std.proofs.Common.{◌≡◌, Some, ap, sym, ◌∙◌}
+use Rattle.std.proofs.Common.{Some, ap, sym, ◌∙◌}
 use Rattle.std.proofs.lemmas.Option.{same_Some}
 use Rattle.reg_journal.specs.declared.reply.Reply.TheVariants.{Radio as OfRadio}
 use Rattle.reply_reading.proofs.ShownAgain.{channels_shown, iface_shown, plain_shown, radio_shown, sections_shown, shown_is}

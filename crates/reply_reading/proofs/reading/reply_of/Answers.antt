@@ -1,4 +1,4 @@
-use Rattle.std.proofs.Common.{◌≡◌, true, false, Some, sym, ◌∙◌}
+use Rattle.std.proofs.Common.{◌≡◌, true, false, sym, ◌∙◌}
 use Rattle.std.proofs.lemmas.Option.{get_or_from_slice_get, same_Some}
 use Rattle.reply_reading.proofs.WrittenAgain.{are_reply, bare_short, written_again}
 use Rattle.reply_reading.proofs.reading.reply_of.Goals as goal

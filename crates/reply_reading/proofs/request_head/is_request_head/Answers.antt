@@ -1,6 +1,5 @@
 use Rattle.std.proofs.Common.{◌≡◌, ℕ, ◌%◌, ◌<◌, ◌≤◌, take, drop, ap, ◌∙◌, arith}
 use Rattle.nl_attrs.specs.Endian.{le16, le32}
-use Rattle.nl_attrs.specs.Messages.{pid_of, seq_of, spelled, type_of}
 use Rattle.reply_reading.proofs.Heads.{head_said, read_as, read_some, said_is_head, some_of}
 use Rattle.reply_reading.proofs.request_head.is_request_head.Goals as goal
 

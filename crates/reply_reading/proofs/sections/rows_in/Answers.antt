@@ -1,5 +1,5 @@
 use Rattle.reply_reading.specs.inner.Reading.{IsToldRow, payload_in, row_attrs, row_payload}
-use Rattle.reply_reading.proofs.Each.{all_read, one_more, through}
+use Rattle.reply_reading.proofs.Each.{one_more, through}
 use Rattle.reply_reading.proofs.Fitting.{row_fit}
 use Rattle.reply_reading.proofs.sections.rows_in.Goals as goal
 
