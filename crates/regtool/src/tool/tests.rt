@@ -99,7 +99,7 @@ type Call<'a> = (&'a str, &'a [u8], Input<'a>, [u64; 3], Status, &'a [u8]);
 /// The first bytes of a file, which are none of a database.
 const SHORT: &[u8] = b"RGDB\0\0\0";
 
-const CALLS: [Call<'_>; 41] = [
+const CALLS: [Call<'_>; 44] = [
     (
         "compile",
         &US_FILE,
@@ -179,6 +179,32 @@ const CALLS: [Call<'_>; 41] = [
         "pack regulatory.db",
         &US_FILE,
         Input::Bytes(b"at 0\n"),
+        [0, 0, 0],
+        Status::Usage,
+        b"",
+    ),
+    (
+        "wire regulatory.db",
+        &US_FILE,
+        Input::Bytes(
+            b"\x20\0\0\0\x21\0\x05\0\x01\0\0\0\0\0\0\0\x01\0\0\0\x0c\0\x01\0\0\0\0\0\0\0\0\0",
+        ),
+        [0, 0, 0],
+        Status::Done,
+        b"\x1c\0\0\0\x21\0\0\0\x01\0\0\0\0\0\0\0\x0a\x01\0\0\x08\0\x10\0\0\0\0\0\x24\0\0\0\x02\0\0\0\x01\0\0\0\0\0\0\0\0\0\0\0\x20\0\0\0\x21\0\x05\0\x01\0\0\0\0\0\0\0",
+    ),
+    (
+        "wire regulatory.db",
+        SHORT,
+        Input::Bytes(US),
+        [0, 0, 0],
+        Status::Refused(InputFault::Database(DbFault::Short(7))),
+        b"",
+    ),
+    (
+        "wire",
+        &US_FILE,
+        Input::Bytes(US),
         [0, 0, 0],
         Status::Usage,
         b"",
