@@ -2,13 +2,15 @@
 
 use db_commands::{InputFault, Status, status_text};
 use db_text::{TextFault, TextKind};
+use line_forms::LineFault;
+use nl_attrs::AttrFault;
 use rule_tables::{Alpha2, DbFault};
 use std::test::Fail;
 
 const US: Alpha2 = Alpha2 { a: b'U', b: b'S' };
 
 /// Why inputs aren't accepted, and the text of that.
-const FAULTS: [(InputFault, &str); 5] = [
+const FAULTS: [(InputFault, &str); 7] = [
     (
         InputFault::Text(TextFault {
             line: 7,
@@ -32,6 +34,20 @@ const FAULTS: [(InputFault, &str); 5] = [
         "too large: 65536 words\n",
     ),
     (InputFault::NoCountry(US), "no country US\n"),
+    (
+        InputFault::Line {
+            number: 2,
+            fault: LineFault::Unknown(3),
+        },
+        "script line 2: unknown word 3\n",
+    ),
+    (
+        InputFault::Wire {
+            place: 28,
+            fault: AttrFault::Truncated(19),
+        },
+        "message at byte 28: Truncated\n",
+    ),
 ];
 
 #[test]
