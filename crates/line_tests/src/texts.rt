@@ -34,7 +34,7 @@ fn says(rt: &impl Abort, alloc: Global, answer: Answer, wanted: &[u8]) {
 
 #[test]
 fn texts_of_answers(rt: HostRuntime) {
-    let answers: [(Answer, &[u8]); 11] = [
+    let answers: [(Answer, &[u8]); 14] = [
         (Answer::Ok, b"ok\n"),
         (
             Answer::Hint(HintAnswer::Treated(Treatment::Already)),
@@ -62,6 +62,15 @@ fn texts_of_answers(rt: HostRuntime) {
         (
             Answer::Refused(Refusal::NoCountry(US)),
             b"refused: no country US\n",
+        ),
+        (Answer::Refused(Refusal::NoRules), b"refused: no rules\n"),
+        (
+            Answer::Refused(Refusal::TooManyRules(33)),
+            b"refused: too many rules 33\n",
+        ),
+        (
+            Answer::Refused(Refusal::BadRule(0)),
+            b"refused: bad rule 0\n",
         ),
         (
             Answer::Refused(Refusal::ElementNotLetters),

@@ -17,6 +17,8 @@ pub enum Content<'a> {
     Bytes(&'a [u8]),
     /// These bytes, and behind them one byte so often.
     Padded(&'a [u8], u8, usize),
+    /// These bytes, behind them blanks so often, and then others.
+    Between(&'a [u8], usize, &'a [u8]),
 }
 
 /// A run of a script over a file and over devices that fail at the listed calls, with its status and its
@@ -255,7 +257,17 @@ fn held(alloc: Global, content: Content<'_>) -> Result<Bytes, Fail> {
             whole.append(rest.as_slice())?;
             Ok(whole)
         }
+        Content::Between(front, count, behind) => between(alloc, front, count, behind),
     }
+}
+
+/// The front, blanks so often, and what stands behind them.
+fn between(alloc: Global, front: &[u8], count: usize, behind: &[u8]) -> Result<Bytes, Fail> {
+    let mut whole = bytes(alloc, front)?;
+    let blanks = vec![in alloc; b' '; count]?;
+    whole.append(blanks.as_slice())?;
+    whole.append(behind)?;
+    Ok(whole)
 }
 
 /// The run ends with its status, and its output is written then.

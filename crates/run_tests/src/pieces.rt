@@ -30,6 +30,22 @@ line fault: not ascii
 ok
 ";
 
+/// What stands before the blanks of a long line, and what behind them: lines at fault, and a last one without a newline.
+const LONG: Content<'_> = Content::Between(
+    b"at 5\nat 6",
+    4_093,
+    b"\nat 7\niw reg fly\nat x\niw reg set\nat 8",
+);
+
+const LONG_REPLIES: &[u8] = b"ok
+line fault: too long
+ok
+line fault: unknown word 3
+line fault: bad number word 2
+line fault: missing word
+ok
+";
+
 const PIECES: [Pieces<'_>; 13] = [
     Pieces {
         name: "in pieces of 1",
@@ -59,31 +75,31 @@ const PIECES: [Pieces<'_>; 13] = [
         output: MIXED_REPLIES,
     },
     Pieces {
-        name: "a long line in pieces of 1",
-        script: Content::Padded(b"at 5\nat 6", b' ', 4_093),
+        name: "lines behind a long one in pieces of 1",
+        script: LONG,
         piece: 1,
         failing_reads: &[],
         failing_writes: &[],
         status: Status::Done,
-        output: b"ok\nline fault: too long\n",
+        output: LONG_REPLIES,
     },
     Pieces {
-        name: "a long line in pieces of 2",
-        script: Content::Padded(b"at 5\nat 6", b' ', 4_093),
+        name: "lines behind a long one in pieces of 2",
+        script: LONG,
         piece: 2,
         failing_reads: &[],
         failing_writes: &[],
         status: Status::Done,
-        output: b"ok\nline fault: too long\n",
+        output: LONG_REPLIES,
     },
     Pieces {
-        name: "a long line in pieces of 4097",
-        script: Content::Padded(b"at 5\nat 6", b' ', 4_093),
+        name: "lines behind a long one in pieces of 4097",
+        script: LONG,
         piece: 4_097,
         failing_reads: &[],
         failing_writes: &[],
         status: Status::Done,
-        output: b"ok\nline fault: too long\n",
+        output: LONG_REPLIES,
     },
     Pieces {
         name: "no piece comes",
