@@ -38,6 +38,7 @@ country US: DFS-FCC
 pub type Row<'a> = (&'a str, &'a [u8], &'a [u8]);
 
 /// A stream of messages over the database of a text.
+#[derive(Drop)]
 pub struct Case<'a> {
     /// What it shows.
     pub name: &'a str,
