@@ -1,5 +1,5 @@
 -- What follows from the answer of the top call, where what is lent is told.
-use Rattle.std.proofs.Common.{◌≡◌, ◌↔◌, ℕ, Bool, IsTrue, false, List, [], ◌∷◌, codes, length, get_or, ◌⊎◌, inl, inr, sym, ◌∙◌, ap, subst, arith}
+use Rattle.std.proofs.Common.{◌≡◌, ◌↔◌, ℕ, ◌<◌, ◌≤◌, Bool, IsTrue, false, List, [], ◌∷◌, codes, length, get_or, ◌⊎◌, inl, inr, sym, ◌∙◌, ap, subst, arith}
 use Rattle.std.specs.Prelude.{map, string_bytes}
 use Rattle.std.specs.declared.alloc.Global.{Global}
 use Rattle.std.specs.declared.string.String.{String}
@@ -83,13 +83,13 @@ not_named named P both isnt holds = let is = both.1 holds in absurd cc
 -- ---- which command was done
 
 -- Forms differ in how many words they have, or in the first byte of the first.
-count : List (String Global) → ℕ
+abbrev count : List (String Global) → ℕ
 count words = length (map string_bytes words)
 
-initial : List (String Global) → ℕ
+abbrev initial : List (String Global) → ℕ
 initial words = get_or (get_or (map string_bytes words) 0 []) 0 0
 
-Looks : List (String Global) → ℕ → ℕ → Type 0
+abbrev Looks : List (String Global) → ℕ → ℕ → Type 0
 Looks words n b = (count words ≡ n) × (initial words ≡ b)
 
 looks_run : (words : List (String Global)) (name : List ℕ) → NamesRun words name → Looks words 2 114
