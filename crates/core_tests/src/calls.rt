@@ -19,7 +19,7 @@ use std::process::Abort;
 use std::test::Fail;
 
 /// The world, and two countries whose regions differ.
-pub const RULES: &str = "country 00:
+pub const RULES: &[u8] = b"country 00:
 \t(2402 - 2472 @ 40), (20)
 \t(5170 - 5250 @ 80), (20), NO-IR, AUTO-BW
 \t(5250 - 5330 @ 80), (20), NO-IR, DFS, AUTO-BW
@@ -42,8 +42,8 @@ pub struct Case<'a> {
     pub failing: &'a [u64],
     /// A transcript of what came before, and one of what is shown. A line behind `> ` makes a request, and its reply
     /// stands below it.
-    pub before: &'a str,
-    pub transcript: &'a str,
+    pub before: &'a [u8],
+    pub transcript: &'a [u8],
 }
 
 /// How requests are made.
@@ -250,13 +250,13 @@ pub fn follow<D: DriverRow>(
 /// Each case has its replies, whose requests are made in this way.
 pub fn hold(rt: &impl Abort, alloc: Global, way: Way, cases: &[Case<'_>]) -> Result<(), Fail> {
     for case in cases {
-        let (mut core, mut drivers) = opened(alloc, RULES.as_bytes(), case.failing)?;
-        let before = follow(alloc, way, &mut core, case.before.as_bytes(), &mut drivers)?;
+        let (mut core, mut drivers) = opened(alloc, RULES, case.failing)?;
+        let before = follow(alloc, way, &mut core, case.before, &mut drivers)?;
         let then = follow(
             alloc,
             way,
             &mut core,
-            case.transcript.as_bytes(),
+            case.transcript,
             &mut drivers,
         )?;
         assert!(rt; before && then, "{}", case.name);

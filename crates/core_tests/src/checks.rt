@@ -9,7 +9,7 @@ const CHECKED: [Case<'_>; 6] = [
         name: "a power is asked within its limit, and what runs keeps its type",
         failing: &[],
         before: COUNTRY,
-        transcript: "> iw dev ap0 ap start home 5220 40 5210 100 2
+        transcript: b"> iw dev ap0 ap start home 5220 40 5210 100 2
 started 2300
 > iw dev ap0 set txpower fixed 2400
 refused: power 2300
@@ -30,7 +30,7 @@ refused: not running
         name: "radar drops a check at its last moment, and forbids for half an hour",
         failing: &[],
         before: COUNTRY,
-        transcript: "> iw dev ap0 cac trigger freq 5260
+        transcript: b"> iw dev ap0 cac trigger freq 5260
 checking 60000
 > at 59999
 ok
@@ -51,7 +51,7 @@ refused: unchecked 5260
         name: "radar drops no check that is done, and takes what it found",
         failing: &[],
         before: COUNTRY,
-        transcript: "> iw dev ap0 cac trigger freq 5260
+        transcript: b"> iw dev ap0 cac trigger freq 5260
 checking 60000
 > at 60000
 ok
@@ -68,7 +68,7 @@ refused: unchecked 5260
         name: "a check that custom rules drop frees nothing",
         failing: &[],
         before: COUNTRY,
-        transcript: "> iw dev ap0 cac trigger freq 5260
+        transcript: b"> iw dev ap0 cac trigger freq 5260
 checking 60000
 > radio rules phy0 (2400 - 2472 @ 40), (20)
 ok
@@ -87,7 +87,7 @@ checking 60000
         name: "radar ends what runs on a checked channel, until it may be checked again",
         failing: &[],
         before: COUNTRY,
-        transcript: "> iw phy phy0 interface add ap1 type __ap
+        transcript: b"> iw phy phy0 interface add ap1 type __ap
 ok
 > iw dev ap0 ap start home 5180 160 5250 100 2
 refused: unchecked 5260
@@ -122,7 +122,7 @@ checking 60000
         name: "a change of region takes checks, and leaves what radar forbids",
         failing: &[],
         before: COUNTRY,
-        transcript: "> iw dev ap0 cac trigger freq 5260
+        transcript: b"> iw dev ap0 cac trigger freq 5260
 checking 60000
 > at 60000
 ok
@@ -151,7 +151,7 @@ const LAPSING: [Case<'_>; 3] = [
         name: "an unused check lapses after two seconds",
         failing: &[],
         before: COUNTRY,
-        transcript: "> iw dev ap0 cac trigger freq 5260
+        transcript: b"> iw dev ap0 cac trigger freq 5260
 checking 60000
 > at 62000
 ok
@@ -165,7 +165,7 @@ checking 60000
         name: "an operation keeps its check, and two seconds after it",
         failing: &[],
         before: COUNTRY,
-        transcript: "> iw dev ap0 cac trigger freq 5260
+        transcript: b"> iw dev ap0 cac trigger freq 5260
 checking 60000
 > at 61999
 ok
@@ -191,7 +191,7 @@ refused: unchecked 5260
         name: "in the region ETSI a check stands on",
         failing: &[],
         before: RADIO,
-        transcript: "> element phy0 474220240417
+        transcript: b"> element phy0 474220240417
 hint replaced
 > indoor on
 ok
@@ -215,7 +215,7 @@ const FAILED: [Case<'_>; 4] = [
         name: "a check that its driver fails doesn't run",
         failing: &[1],
         before: COUNTRY,
-        transcript: "> iw dev ap0 cac trigger freq 5260
+        transcript: b"> iw dev ap0 cac trigger freq 5260
 refused: driver failed
 > iw dev ap0 info
 ap0 1 phy0 __ap
@@ -234,7 +234,7 @@ checking 60000
         name: "a driver is told of an equal check again",
         failing: &[2],
         before: COUNTRY,
-        transcript: "> iw dev ap0 cac trigger freq 5260
+        transcript: b"> iw dev ap0 cac trigger freq 5260
 checking 60000
 > at 62000
 ok
@@ -248,7 +248,7 @@ checking 60000
         name: "a start that its driver fails leaves nothing on air",
         failing: &[1],
         before: RADIO,
-        transcript: "> iw dev ap0 ap start home 2412 HT20 100 2
+        transcript: b"> iw dev ap0 ap start home 2412 HT20 100 2
 refused: driver failed
 > iw dev ap0 ap stop
 refused: not running
@@ -260,7 +260,7 @@ started 2000
         name: "the second start fails, and the first goes on",
         failing: &[2],
         before: RADIO,
-        transcript: "> iw phy phy0 interface add ap1 type __ap
+        transcript: b"> iw phy phy0 interface add ap1 type __ap
 ok
 > iw dev ap0 ap start home 2412 100 2
 started 2000

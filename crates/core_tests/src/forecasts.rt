@@ -18,7 +18,7 @@ type StartRow = (u32, Result<u16, Refusal>);
 type CheckRow = (Width, u32, u32, Result<(u32, u16), Refusal>);
 
 /// The radio checked one channel, and had radar on another.
-const BEFORE: &str = "> radio add phy0 bands 2,5 width 160 radar 160 power 2500 contexts 2
+const BEFORE: &[u8] = b"> radio add phy0 bands 2,5 width 160 radar 160 power 2500 contexts 2
 ok
 > iw phy phy0 interface add ap0 type __ap
 ok
@@ -105,8 +105,8 @@ fn tells_states(rt: &impl Abort, core: &Core, rows: &[(u32, u32, Option<Dfs>)]) 
 #[test]
 fn what_would_come_is_told(rt: HostRuntime) -> Result<(), Fail> {
     let alloc = rt.alloc();
-    let (mut core, mut drivers) = opened(alloc, RULES.as_bytes(), &[])?;
-    let before = follow(alloc, Way::Step, &mut core, BEFORE.as_bytes(), &mut drivers)?;
+    let (mut core, mut drivers) = opened(alloc, RULES, &[])?;
+    let before = follow(alloc, Way::Step, &mut core, BEFORE, &mut drivers)?;
     assert!(rt; before);
     let name = Name::new(b"ap0").expect(&rt, "a name");
     foretells_starts(&rt, &core, &name, &STARTS);

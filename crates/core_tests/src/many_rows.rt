@@ -5,7 +5,7 @@ use reg_base::Bytes;
 use reg_lists::OutOfMemory;
 use std::test::Fail;
 
-const BEFORE: &str = "> radio add phy0 bands 2 width 40 radar 0 power 3000 contexts 1
+const BEFORE: &[u8] = b"> radio add phy0 bands 2 width 40 radar 0 power 3000 contexts 1
 ok
 > iw phy phy0 interface add ap0 type __ap
 ok
@@ -49,7 +49,7 @@ fn custom_rules_that_make_too_many_rows(rt: HostRuntime) -> Result<(), Fail> {
     let mut transcript = Bytes::new(alloc);
     put_transcript(&mut transcript)?;
     let (mut core, mut drivers) = opened(alloc, text.as_slice(), &[])?;
-    let before = follow(alloc, Way::Step, &mut core, BEFORE.as_bytes(), &mut drivers)?;
+    let before = follow(alloc, Way::Step, &mut core, BEFORE, &mut drivers)?;
     let then = follow(
         alloc,
         Way::Step,

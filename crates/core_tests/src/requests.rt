@@ -4,14 +4,14 @@ use crate::calls::{Case, RULES, Way, follow, hold, opened};
 use std::test::Fail;
 
 /// A radio of both bands, and an access point on it.
-pub const RADIO: &str = "> radio add phy0 bands 2,5 width 160 radar 160 power 3000 contexts 2
+pub const RADIO: &[u8] = b"> radio add phy0 bands 2,5 width 160 radar 160 power 3000 contexts 2
 ok
 > iw phy phy0 interface add ap0 type __ap
 ok
 ";
 
 /// The same in a country with radar channels.
-pub const COUNTRY: &str = "> radio add phy0 bands 2,5 width 160 radar 160 power 3000 contexts 2
+pub const COUNTRY: &[u8] = b"> radio add phy0 bands 2,5 width 160 radar 160 power 3000 contexts 2
 ok
 > iw phy phy0 interface add ap0 type __ap
 ok
@@ -24,7 +24,7 @@ const HINTED: [Case<'_>; 5] = [
         name: "the power follows each hint, and custom rules stop what they don't allow",
         failing: &[],
         before: RADIO,
-        transcript: "> iw dev ap0 ap start home 2412 100 2
+        transcript: b"> iw dev ap0 ap start home 2412 100 2
 started 2000
 > iw reg set US
 hint replaced
@@ -43,7 +43,7 @@ ok
         name: "a driver's hint may be set already",
         failing: &[],
         before: RADIO,
-        transcript: "> driver phy0 US
+        transcript: b"> driver phy0 US
 hint replaced
 > driver phy0 US
 hint already set
@@ -55,7 +55,7 @@ refused: no country FR
         name: "a user's hint is joined with what was heard, and a third is ignored",
         failing: &[],
         before: RADIO,
-        transcript: "> element phy0 474220240417
+        transcript: b"> element phy0 474220240417
 hint replaced
 > iw reg set US
 hint intersected
@@ -73,8 +73,8 @@ hint ignored
     Case {
         name: "a radio that manages itself, and one that hears no elements",
         failing: &[],
-        before: "",
-        transcript: "> radio add phy0 bands 2 width 20 radar 0 power 3000 contexts 1 self
+        before: b"",
+        transcript: b"> radio add phy0 bands 2 width 20 radar 0 power 3000 contexts 1 self
 ok
 > radio add phy1 bands 2 width 20 radar 0 power 3000 contexts 1 noie
 ok
@@ -98,8 +98,8 @@ hint own
     Case {
         name: "interfaces are swept in the order in which they were made",
         failing: &[],
-        before: "",
-        transcript: "> radio add phy0 bands 2,5 width 160 radar 160 power 3000 contexts 2
+        before: b"",
+        transcript: b"> radio add phy0 bands 2,5 width 160 radar 160 power 3000 contexts 2
 ok
 > iw phy phy0 interface add gone type __ap
 ok
@@ -140,7 +140,7 @@ const SHOWN: [Case<'_>; 2] = [
         name: "a wide custom rule reaches over two rules of the country",
         failing: &[],
         before: COUNTRY,
-        transcript: "> radio rules phy0 (5150 - 5350 @ 160), (20)
+        transcript: b"> radio rules phy0 (5150 - 5350 @ 160), (20)
 ok
 > iw dev ap0 cac trigger freq 5180 160 5250
 checking 60000
@@ -163,8 +163,8 @@ country 98: DFS-FCC
     Case {
         name: "a radio, its interface and its channels",
         failing: &[],
-        before: "",
-        transcript: "> radio add phy0 bands 2 width 40 radar 0 power 1500 contexts 1
+        before: b"",
+        transcript: b"> radio add phy0 bands 2 width 40 radar 0 power 1500 contexts 1
 ok
 > iw phy phy0 interface add ap0 type __ap
 ok
@@ -201,7 +201,7 @@ fn what_is_shown(rt: HostRuntime) -> Result<(), Fail> {
     hold(&rt, rt.alloc(), Way::Step, &SHOWN)
 }
 
-const REMOVED: &str = "> iw phy phy0 interface add sta0 type managed
+const REMOVED: &[u8] = b"> iw phy phy0 interface add sta0 type managed
 ok
 > iw dev ap0 ap start home 2412 100 2
 started 2000
@@ -217,13 +217,13 @@ refused: slot used phy0
 #[test]
 fn a_removed_radio_gives_its_driver_up(rt: HostRuntime) -> Result<(), Fail> {
     let alloc = rt.alloc();
-    let (mut core, mut drivers) = opened(alloc, RULES.as_bytes(), &[])?;
-    let before = follow(alloc, Way::Step, &mut core, RADIO.as_bytes(), &mut drivers)?;
+    let (mut core, mut drivers) = opened(alloc, RULES, &[])?;
+    let before = follow(alloc, Way::Step, &mut core, RADIO, &mut drivers)?;
     let then = follow(
         alloc,
         Way::Step,
         &mut core,
-        REMOVED.as_bytes(),
+        REMOVED,
         &mut drivers,
     )?;
     assert!(rt; before && then);

@@ -66,7 +66,7 @@ impl Driver for CountsStops {
 
 /// A check is dropped, and three operations end: by custom rules, on request, and with their interface. A stop
 /// that is refused isn't told.
-const ENDED: &str = "> radio add phy1 bands 2,5 width 160 radar 160 power 3000 contexts 2
+const ENDED: &[u8] = b"> radio add phy1 bands 2,5 width 160 radar 160 power 3000 contexts 2
 ok
 > iw phy phy1 interface add ap0 type __ap
 ok
@@ -101,8 +101,8 @@ ok
 #[test]
 fn drivers_are_told_what_ends(rt: HostRuntime) -> Result<(), Fail> {
     let alloc = rt.alloc();
-    let (mut core, mut drivers) = opened(alloc, RULES.as_bytes(), &[])?;
-    let followed = follow(alloc, Way::Step, &mut core, ENDED.as_bytes(), &mut drivers)?;
+    let (mut core, mut drivers) = opened(alloc, RULES, &[])?;
+    let followed = follow(alloc, Way::Step, &mut core, ENDED, &mut drivers)?;
     assert!(rt; followed);
     let stops = match drivers.as_slice() {
         [_, Some(driver), ..] => driver.faults(),

@@ -7,7 +7,7 @@ use db_commands::Status;
 use db_text::parse;
 use db_writer::layout;
 use radio_drv::{FailingDriver, SimDriver};
-use reg_base::{Bytes, Files, MemFiles, MemSink, Sink, Source, StdSource};
+use reg_base::{Bytes, Files, MemFiles, MemSink, MemSource, Sink, Source};
 use reg_core::Drivers;
 use std::alloc::Global;
 use std::process::Abort;
@@ -21,10 +21,10 @@ pub const NAME: &str = "regulatory.db";
 pub const ROOM: usize = 8192;
 
 /// A country with one rule.
-pub const US: &str = "country US: DFS-FCC\n\t(2400 - 2472 @ 40), (30)\n";
+pub const US: &[u8] = b"country US: DFS-FCC\n\t(2400 - 2472 @ 40), (30)\n";
 
 /// The world, and a country with radar channels.
-pub const RULES: &str = "country 00:
+pub const RULES: &[u8] = b"country 00:
 \t(2402 - 2472 @ 40), (20)
 \t(5170 - 5250 @ 80), (20), NO-IR, AUTO-BW
 \t(5250 - 5330 @ 80), (20), NO-IR, DFS, AUTO-BW
@@ -43,7 +43,7 @@ pub struct Case<'a> {
     /// What it shows.
     pub name: &'a str,
     /// The rule text.
-    pub text: &'a str,
+    pub text: &'a [u8],
     /// The calls at which the first driver fails.
     pub failing: &'a [u64],
     /// The messages and their answers.
@@ -88,8 +88,8 @@ pub fn hex(alloc: Global, text: &[u8]) -> Result<Bytes, Fail> {
 }
 
 /// The file of the database that the text stands for.
-pub fn database(alloc: Global, text: &str) -> Result<Bytes, Fail> {
-    let db = parse(alloc, text.as_bytes())?;
+pub fn database(alloc: Global, text: &[u8]) -> Result<Bytes, Fail> {
+    let db = parse(alloc, text)?;
     let file = layout(alloc, &db)?;
     Ok(file)
 }
@@ -116,21 +116,39 @@ pub fn call<F: Files, S: Source, K: Sink>(
     Ok(status)
 }
 
-/// Each stream is answered message by message.
+/// Each stream is answered message by message, where it comes at once and where it comes byte by byte.
 pub fn answers(rt: &impl Abort, alloc: Global, cases: &[Case<'_>]) -> Result<(), Fail> {
     for case in cases {
-        let mut stream = Bytes::new(alloc);
-        for (_name, message, _answer) in case.rows {
-            put_hex(&mut stream, message)?;
-        }
-        let mut files = MemFiles::new(alloc, NAME, database(alloc, case.text)?)?;
-        let mut input = StdSource::new(stream.as_slice());
-        let mut out = MemSink::new(alloc, ROOM)?;
-        let status = call(alloc, case.failing, &mut files, &mut input, &mut out)?;
-        assert!(rt; status == Status::Done, "{}", case.name);
-        stand_in_order(rt, alloc, case, out.written())?;
+        is_answered_so(rt, alloc, case, ROOM)?;
+        is_answered_so(rt, alloc, case, 1)?;
     }
     Ok(())
+}
+
+/// The messages of the case, one behind the other.
+fn stream_of(alloc: Global, case: &Case<'_>) -> Result<Bytes, Fail> {
+    let mut stream = Bytes::new(alloc);
+    for (_name, message, _answer) in case.rows {
+        put_hex(&mut stream, message)?;
+    }
+    Ok(stream)
+}
+
+/// The stream of the case is answered message by message, where each read gives at most so many bytes.
+fn is_answered_so(
+    rt: &impl Abort,
+    alloc: Global,
+    case: &Case<'_>,
+    piece: usize,
+) -> Result<(), Fail>
+    requires { 0 < piece }
+{
+    let mut files = MemFiles::new(alloc, NAME, database(alloc, case.text)?)?;
+    let mut input = MemSource::new(stream_of(alloc, case)?, piece);
+    let mut out = MemSink::new(alloc, ROOM)?;
+    let status = call(alloc, case.failing, &mut files, &mut input, &mut out)?;
+    assert!(rt; status == Status::Done, "{}", case.name);
+    stand_in_order(rt, alloc, case, out.written())
 }
 
 /// The bytes are the answers of the case, one behind the other.

@@ -270,7 +270,7 @@ const WIDE: [Row<'_>; 7] = [
 ];
 
 /// The rules of a country where 320 MHz may be used.
-const WIDE_RULES: &str = "country XX:\n\t(5925 - 7125 @ 320), (23)\n";
+const WIDE_RULES: &[u8] = b"country XX:\n\t(5925 - 7125 @ 320), (23)\n";
 
 #[test]
 fn commands_are_answered(rt: HostRuntime) -> Result<(), Fail> {

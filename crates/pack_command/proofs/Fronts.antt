@@ -73,4 +73,5 @@ lines_first input script P told (inl within) =
     let (rest, is) = ended_first (take script_limit within.taken) (drop script_limit within.taken ++ left) lines begun are in
     (lines, rest, ap script_lines (front ∙ ap (λ l. l ++ left) (sym (take-append-drop script_limit within.taken)) ∙ append_assoc (take script_limit within.taken) (drop script_limit within.taken) left) ∙ is, holds)
 lines_first input script P told (inr (end, taken)) =
-    (script_lines script, [], sym (append-nil (script_lines script)), subst (λ bytes. P (script_lines bytes)) (sym (consumed_whole input.before input.after script taken.taken told taken.consumed end)) taken.holds)
+    let (within, holds) = taken.holds in
+    (script_lines script, [], sym (append-nil (script_lines script)), subst (λ bytes. P (script_lines bytes)) (sym (consumed_whole input.before input.after script taken.taken told taken.consumed end)) holds)

@@ -51,8 +51,9 @@ taken_among input now left count buffer P Q piece (taken, consumed, sum, holds) 
 all_taken : (input : StreamAround) (now : Option (List ℕ)) (taken : List ℕ) → Consumes now input.after [] → Consumes input.before now taken → Consumes input.before input.after taken
 all_taken input now taken none consumed = subst (Consumes input.before input.after) (append-nil taken) (Consumes-trans input.before now input.after taken [] consumed none)
 
-pub taken_at_end : (input : StreamAround) (now : Option (List ℕ)) (left : ℕ) (P Q : List ℕ → Type 0) → Consumes now input.after [] → ReadsOn input.before now left P → ((taken : List ℕ) → P taken → Q taken) → IsTaken input Q
-taken_at_end input now left P Q none (taken, consumed, sum, holds) goes = record { taken = taken; consumed = all_taken input now taken none consumed; holds = goes taken holds }
+pub taken_at_end : (input : StreamAround) (now : Option (List ℕ)) (left : ℕ) (P Q : List ℕ → Type 0) → Consumes now input.after [] → ReadsOn input.before now left P → ((taken : List ℕ) → P taken → Q taken)
+    → IsTaken input (λ taken. (length taken ≤ script_limit) × Q taken)
+taken_at_end input now left P Q none (taken, consumed, sum, holds) goes = record { taken = taken; consumed = all_taken input now taken none consumed; holds = (omega (arith, sum), goes taken holds) }
 
 pub read_at_end : (input : StreamAround) (now : Option (List ℕ)) (left : ℕ) (P Q : List ℕ → Type 0) → Consumes now input.after [] → IsAtEnd input.after → ReadsOn input.before now left P → ((taken : List ℕ) → P taken → Q taken)
     → IsRead script_limit input Q

@@ -12,6 +12,7 @@ use reg_core::Drivers;
 use script_run::run;
 use std::alloc::Global;
 use std::process::Abort;
+use std::str::from_utf8;
 use std::test::Fail;
 
 /// The name of the database file.
@@ -21,7 +22,7 @@ pub const NAME: &str = "regulatory.db";
 pub const ROOM: usize = 4096;
 
 /// The world, and a country with radar channels.
-pub const RULES: &str = "country 00:
+pub const RULES: &[u8] = b"country 00:
 \t(2402 - 2472 @ 40), (20)
 \t(5170 - 5250 @ 80), (20), NO-IR, AUTO-BW
 \t(5250 - 5330 @ 80), (20), NO-IR, DFS, AUTO-BW
@@ -36,12 +37,12 @@ pub struct Case<'a> {
     /// What it shows.
     pub name: &'a str,
     /// The rule text.
-    pub text: &'a str,
+    pub text: &'a [u8],
     /// The calls at which the first driver fails, and how often it does.
     pub failing: &'a [u64],
     pub faults: u64,
     /// A line of the script behind `> `, and the lines of its reply below it.
-    pub transcript: &'a str,
+    pub transcript: &'a [u8],
 }
 
 /// A copy of the bytes.
@@ -52,8 +53,8 @@ pub fn bytes(alloc: Global, given: &[u8]) -> Result<Bytes, Fail> {
 }
 
 /// The file of the database that the text stands for.
-pub fn database(alloc: Global, text: &str) -> Result<Bytes, Fail> {
-    let db = parse(alloc, text.as_bytes())?;
+pub fn database(alloc: Global, text: &[u8]) -> Result<Bytes, Fail> {
+    let db = parse(alloc, text)?;
     let file = layout(alloc, &db)?;
     Ok(file)
 }
@@ -86,11 +87,11 @@ pub fn call<F: Files, S: Source, K: Sink>(
 }
 
 /// The script of a transcript.
-fn script_of(alloc: Global, transcript: &str) -> Result<Bytes, Fail> {
+fn script_of(alloc: Global, transcript: &[u8]) -> Result<Bytes, Fail> {
     let mut script = Bytes::new(alloc);
-    for line in transcript.split('\n') {
-        if let Some(asked) = line.strip_prefix("> ") {
-            script.append(asked.as_bytes())?;
+    for line in transcript.split(|byte| *byte == b'\n') {
+        if let Some(asked) = line.strip_prefix(b"> ") {
+            script.append(asked)?;
             script.push(b'\n')?;
         }
     }
@@ -113,22 +114,27 @@ pub fn replies(rt: &impl Abort, alloc: Global, cases: &[Case<'_>]) -> Result<(),
 }
 
 /// The bytes are the replies of the transcript, one behind the other.
-fn stand_in_order(rt: &impl Abort, name: &str, written: &[u8], transcript: &str) {
-    let mut asked = "";
+fn stand_in_order(rt: &impl Abort, name: &str, written: &[u8], transcript: &[u8]) {
+    let mut asked: &[u8] = b"";
     let mut left = written;
-    for line in transcript.split('\n') {
-        if line.is_empty() || line.strip_prefix("> ").is_some() {
+    for line in transcript.split(|byte| *byte == b'\n') {
+        if line.is_empty() || line.starts_with(b"> ") {
             asked = line;
             continue;
         }
         let rest = after_line(left, line);
-        assert!(rt; rest.is_some(), "{name}: {asked}");
+        assert!(rt; rest.is_some(), "{name}: {}", shown(asked));
         left = rest.unwrap_or(b"");
     }
     assert!(rt; left.is_empty(), "{name}: behind the last line");
 }
 
+/// The line as text.
+fn shown(line: &[u8]) -> &str {
+    from_utf8(line).unwrap_or("")
+}
+
 /// What stands behind this line, where it stands first.
-fn after_line<'a>(bytes: &'a [u8], line: &str) -> Option<&'a [u8]> {
-    bytes.strip_prefix(line.as_bytes())?.strip_prefix(b"\n")
+fn after_line<'a>(bytes: &'a [u8], line: &[u8]) -> Option<&'a [u8]> {
+    bytes.strip_prefix(line)?.strip_prefix(b"\n")
 }

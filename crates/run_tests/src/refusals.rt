@@ -3,7 +3,7 @@
 use crate::calls::{Case, RULES};
 
 /// Rules of a country with little width, and of one that permits nobody to operate outdoors.
-const NARROW: &str = "country 00:
+const NARROW: &[u8] = b"country 00:
 \t(2402 - 2472 @ 10), (20)
 \t(5170 - 5250 @ 80), (20), NO-OUTDOOR
 \t(5250 - 5330 @ 80), (20), DFS
@@ -17,7 +17,7 @@ pub const REFUSED: [Case<'_>; 6] = [
         text: RULES,
         failing: &[],
         faults: 0,
-        transcript: "> iw phy phy0 interface add ap0 type __ap
+        transcript: b"> iw phy phy0 interface add ap0 type __ap
 refused: no radio phy0
 > radio add phy0 bands 2,5 width 160 radar 160 power 3000 contexts 2
 ok
@@ -35,7 +35,7 @@ refused: no radio phy7
         text: RULES,
         failing: &[],
         faults: 0,
-        transcript: "> radio add phy0 bands 2,5 width 160 radar 160 power 3000 contexts 2
+        transcript: b"> radio add phy0 bands 2,5 width 160 radar 160 power 3000 contexts 2
 ok
 > radio add phy1 bands 2 width 20 radar 0 power 2000 contexts 1
 ok
@@ -73,7 +73,7 @@ ok
         text: RULES,
         failing: &[],
         faults: 0,
-        transcript: "> iw dev ap0 ap start home 2412 100 2
+        transcript: b"> iw dev ap0 ap start home 2412 100 2
 refused: no interface ap0
 > iw dev ap0 ap start home 2413 100 2
 refused: no interface ap0
@@ -101,7 +101,7 @@ refused: not running
         text: RULES,
         failing: &[],
         faults: 0,
-        transcript: "> radio add phy0 bands 2 width 20 radar 0 power 3000 contexts 1
+        transcript: b"> radio add phy0 bands 2 width 20 radar 0 power 3000 contexts 1
 ok
 > iw phy phy0 interface add ap0 type __ap
 ok
@@ -136,7 +136,7 @@ started 2000
         text: NARROW,
         failing: &[],
         faults: 0,
-        transcript: "> radio add phy0 bands 2,5 width 20 radar 0 power 3000 contexts 8
+        transcript: b"> radio add phy0 bands 2,5 width 20 radar 0 power 3000 contexts 8
 ok
 > radio add phy1 bands 2,5 width 20 radar 20 power 3000 contexts 8
 ok
@@ -162,7 +162,7 @@ refused: no rule 5500
         text: RULES,
         failing: &[],
         faults: 0,
-        transcript: "> iw reg set 00
+        transcript: b"> iw reg set 00
 hint already set
 > iw reg set US
 hint replaced

@@ -11,7 +11,7 @@ const ANSWERED: [Case<'_>; 7] = [
         text: RULES,
         failing: &[],
         faults: 0,
-        transcript: "> radio add phy0 bands 2,5 width 160 radar 160 power 3000 contexts 2
+        transcript: b"> radio add phy0 bands 2,5 width 160 radar 160 power 3000 contexts 2
 ok
 > iw phy phy0 interface add ap0 type __ap
 ok
@@ -44,10 +44,10 @@ line fault: unknown word 3
     },
     Case {
         name: "a database without countries has the rules of the world",
-        text: "",
+        text: b"",
         failing: &[],
         faults: 0,
-        transcript: "> radio add phy0 bands 2,5 width 160 radar 160 power 3000 contexts 2
+        transcript: b"> radio add phy0 bands 2,5 width 160 radar 160 power 3000 contexts 2
 ok
 > iw phy phy0 interface add ap0 type __ap
 ok
@@ -62,7 +62,7 @@ started 2000
         text: RULES,
         failing: &[],
         faults: 0,
-        transcript: "> at 5
+        transcript: b"> at 5
 ok
 > at 4
 refused: moment back 5
@@ -80,7 +80,7 @@ refused: moment too large 1000000000000001
         text: RULES,
         failing: &[],
         faults: 0,
-        transcript: "> at 60000
+        transcript: b"> at 60000
 ok
 > radio add phy0 bands 2,5 width 160 radar 160 power 3000 contexts 2
 ok
@@ -110,7 +110,7 @@ ok
         text: RULES,
         failing: &[1],
         faults: 1,
-        transcript: "> radio add phy0 bands 2 width 20 radar 0 power 1500 contexts 1
+        transcript: b"> radio add phy0 bands 2 width 20 radar 0 power 1500 contexts 1
 ok
 > radio add phy1 bands 5 width 80 radar 80 power 3000 contexts 1
 ok
@@ -146,7 +146,7 @@ started 2300
         text: RULES,
         failing: &[1],
         faults: 1,
-        transcript: "> radio add phy0 bands 2,5 width 160 radar 160 power 3000 contexts 2
+        transcript: b"> radio add phy0 bands 2,5 width 160 radar 160 power 3000 contexts 2
 ok
 > iw phy phy0 interface add ap0 type __ap
 ok
@@ -163,7 +163,7 @@ refused: busy
         text: RULES,
         failing: &[],
         faults: 0,
-        transcript: "> 
+        transcript: b"> 
 > # a radio
 > radio add phy0 bands 2,5 width 160 radar 160 power 3000 contexts 2
 ok

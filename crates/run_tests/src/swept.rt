@@ -3,7 +3,7 @@
 use crate::calls::{Case, RULES};
 
 /// The world, and two countries whose regions differ.
-const REGIONS: &str = "country 00:
+const REGIONS: &[u8] = b"country 00:
 \t(2402 - 2472 @ 40), (20)
 \t(5170 - 5250 @ 80), (20), NO-IR, AUTO-BW
 \t(5250 - 5330 @ 80), (20), NO-IR, DFS, AUTO-BW
@@ -24,7 +24,7 @@ pub const SWEPT: [Case<'_>; 12] = [
         text: RULES,
         failing: &[],
         faults: 0,
-        transcript: "> radio add phy0 bands 2,5 width 160 radar 160 power 3000 contexts 2
+        transcript: b"> radio add phy0 bands 2,5 width 160 radar 160 power 3000 contexts 2
 ok
 > iw phy phy0 interface add ap0 type __ap
 ok
@@ -68,7 +68,7 @@ checking 60000
         text: RULES,
         failing: &[],
         faults: 0,
-        transcript: "> radio add phy0 bands 2,5 width 160 radar 160 power 3000 contexts 2
+        transcript: b"> radio add phy0 bands 2,5 width 160 radar 160 power 3000 contexts 2
 ok
 > iw phy phy0 interface add ap0 type __ap
 ok
@@ -96,7 +96,7 @@ refused: bad channel
         text: RULES,
         failing: &[],
         faults: 0,
-        transcript: "> radio add phy0 bands 2,5 width 160 radar 160 power 3000 contexts 2
+        transcript: b"> radio add phy0 bands 2,5 width 160 radar 160 power 3000 contexts 2
 ok
 > iw phy phy0 interface add ap0 type __ap
 ok
@@ -126,7 +126,7 @@ refused: not running
         text: REGIONS,
         failing: &[],
         faults: 0,
-        transcript: "> radio add phy0 bands 2,5 width 160 radar 160 power 3000 contexts 2
+        transcript: b"> radio add phy0 bands 2,5 width 160 radar 160 power 3000 contexts 2
 ok
 > iw phy phy0 interface add ap0 type __ap
 ok
@@ -158,7 +158,7 @@ refused: element not letters
         text: REGIONS,
         failing: &[],
         faults: 0,
-        transcript: "> radio add phy0 bands 2,5 width 160 radar 160 power 3000 contexts 2
+        transcript: b"> radio add phy0 bands 2,5 width 160 radar 160 power 3000 contexts 2
 ok
 > iw phy phy0 interface add ap0 type __ap
 ok
@@ -185,7 +185,7 @@ refused: radar 5280
         text: REGIONS,
         failing: &[],
         faults: 0,
-        transcript: "> radio add phy0 bands 2,5 width 160 radar 160 power 3000 contexts 2
+        transcript: b"> radio add phy0 bands 2,5 width 160 radar 160 power 3000 contexts 2
 ok
 > iw phy phy0 interface add ap0 type __ap
 ok
@@ -204,7 +204,7 @@ started 2400
         text: REGIONS,
         failing: &[],
         faults: 0,
-        transcript: "> radio add phy0 bands 2,5 width 160 radar 160 power 3000 contexts 2
+        transcript: b"> radio add phy0 bands 2,5 width 160 radar 160 power 3000 contexts 2
 ok
 > iw phy phy0 interface add ap0 type __ap
 ok
@@ -225,7 +225,7 @@ checking 60000
         text: REGIONS,
         failing: &[],
         faults: 0,
-        transcript: "> radio add phy0 bands 2,5 width 160 radar 160 power 3000 contexts 2
+        transcript: b"> radio add phy0 bands 2,5 width 160 radar 160 power 3000 contexts 2
 ok
 > iw phy phy0 interface add ap0 type __ap
 ok
@@ -258,7 +258,7 @@ refused: unchecked 5260
         text: REGIONS,
         failing: &[],
         faults: 0,
-        transcript: "> radio add phy0 bands 2,5 width 160 radar 160 power 3000 contexts 2
+        transcript: b"> radio add phy0 bands 2,5 width 160 radar 160 power 3000 contexts 2
 ok
 > iw phy phy0 interface add ap0 type __ap
 ok
@@ -276,10 +276,10 @@ started 2000
     },
     Case {
         name: "320 MHz are for 6 GHz",
-        text: "country XX:\n\t(5925 - 7125 @ 320), (23)\n",
+        text: b"country XX:\n\t(5925 - 7125 @ 320), (23)\n",
         failing: &[],
         faults: 0,
-        transcript: "> radio add phy0 bands 6 width 320 radar 0 power 3000 contexts 1
+        transcript: b"> radio add phy0 bands 6 width 320 radar 0 power 3000 contexts 1
 ok
 > iw phy phy0 interface add ap0 type __ap
 ok
@@ -298,7 +298,7 @@ started 2300
         text: RULES,
         failing: &[],
         faults: 0,
-        transcript: "> radio add phy0 bands 2,5 width 160 radar 160 power 3000 contexts 1
+        transcript: b"> radio add phy0 bands 2,5 width 160 radar 160 power 3000 contexts 1
 ok
 > iw phy phy0 interface add mon0 type monitor
 ok
@@ -321,7 +321,7 @@ refused: radio lacks context 1
         text: RULES,
         failing: &[],
         faults: 0,
-        transcript: "> radio add phy0 bands 2,5 width 160 radar 160 power 3000 contexts 2
+        transcript: b"> radio add phy0 bands 2,5 width 160 radar 160 power 3000 contexts 2
 ok
 > iw phy phy0 interface add ap0 type __ap
 ok

@@ -121,8 +121,8 @@ halts_at_end db input output now left drivers halt P none end (taken, consumed, 
 
     by : (halt : Halt) → HasHaltCause output.faults_before output.faults_after halt → ((taken : List ℕ) → P taken → IsHalt db (script_lines taken) output drivers halt)
         → IsAnswering db input output drivers (status_of_halt halt)
-    by NoMemory cause stops = inr (end, record { taken = taken; consumed = all; holds = stops taken holds })
-    by WriteFault cause stops = (cause, inr (end, record { taken = taken; consumed = all; holds = stops taken holds }))
+    by NoMemory cause stops = inr (end, record { taken = taken; consumed = all; holds = (omega (arith, sum), stops taken holds) })
+    by WriteFault cause stops = (cause, inr (end, record { taken = taken; consumed = all; holds = (omega (arith, sum), stops taken holds) }))
 
 -- the answering of a line stopped whose newline came
 pub halts_among : (db : List Domain) (input output : StreamAround) (now : Option (List ℕ)) (left count : ℕ) (buffer : List ℕ) (drivers : DriversAround) (halt : Halt) (P : List ℕ → Type 0)

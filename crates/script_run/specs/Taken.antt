@@ -1,5 +1,5 @@
 -- What was taken of a script, and which of its lines came whole with that.
-use Rattle.std.specs.Prelude.{◌≡◌, ℕ, ◌==◌, ◌⊎◌, List, [], ◌∷◌, ◌++◌, take}
+use Rattle.std.specs.Prelude.{◌≡◌, ℕ, ◌==◌, ◌≤◌, ◌⊎◌, List, [], ◌∷◌, ◌++◌, length, take}
 use Rattle.std.specs.List.{slice_split}
 use Rattle.std.specs.Io.KnownBytes.{Consumes, IsAtEnd}
 use Rattle.iw_commands.specs.Scripts.{script_lines}
@@ -19,7 +19,7 @@ pub record IsTaken (input : StreamAround) (P : List ℕ → Type 0) : Type 0 whe
 abbrev pub HasEnded : StreamAround → (List (List ℕ) → Type 0) → Type 0
 HasEnded input P = IsTaken input (λ taken. (lines : List (List ℕ)) × (begun : List ℕ) × AreEnded (take script_limit taken) lines begun × P lines)
 
--- That holds of the lines that could be answered: those whose newline was taken within the limit, and at the end of the input
--- all lines of what was taken.
+-- That holds of the lines that could be answered: those whose newline was taken within the limit, and at the end of an input
+-- that is within the limit all its lines.
 abbrev pub HasLines : StreamAround → (List (List ℕ) → Type 0) → Type 0
-HasLines input P = HasEnded input P ⊎ (IsAtEnd input.after × IsTaken input (λ taken. P (script_lines taken)))
+HasLines input P = HasEnded input P ⊎ (IsAtEnd input.after × IsTaken input (λ taken. (length taken ≤ script_limit) × P (script_lines taken)))
