@@ -38,9 +38,10 @@ pub struct Case<'a> {
     pub name: &'a str,
     /// The rule text.
     pub text: &'a [u8],
-    /// The calls at which the first driver fails, and how often it does.
+    /// The calls at which the first driver fails.
     pub failing: &'a [u64],
-    pub faults: u64,
+    /// How often it failed by the end, and `None` where its radio was removed.
+    pub faults: Option<u64>,
     /// A line of the script behind `> `, and the lines of its reply below it.
     pub transcript: &'a [u8],
 }
@@ -60,14 +61,14 @@ pub fn database(alloc: Global, text: &[u8]) -> Result<Bytes, Fail> {
 }
 
 /// What `run` ends with over eight drivers, of which the first fails at the listed calls; and how often
-/// that one failed.
+/// that one failed, where it is still there.
 pub fn call<F: Files, S: Source, K: Sink>(
     alloc: Global,
     failing: &[u64],
     files: &mut F,
     input: &mut S,
     out: &mut K,
-) -> Result<(Status, u64), Fail> {
+) -> Result<(Status, Option<u64>), Fail> {
     let mut drivers: Drivers = Vec::new(alloc);
     let first = FailingDriver::new(alloc, failing)?;
     add_driver(&mut drivers, Box::new(alloc, first)?)?;
@@ -80,8 +81,8 @@ pub fn call<F: Files, S: Source, K: Sink>(
     add_driver(&mut drivers, Box::new(alloc, SimDriver::new())?)?;
     let status = run(alloc, NAME, files, input, out, &mut drivers);
     let faults = match drivers.as_slice() {
-        [Some(driver), ..] => driver.faults(),
-        _ => 0,
+        [Some(driver), ..] => Some(driver.faults()),
+        _ => None,
     };
     Ok((status, faults))
 }

@@ -16,7 +16,7 @@ pub const REFUSED: [Case<'_>; 6] = [
         name: "radios are added once",
         text: RULES,
         failing: &[],
-        faults: 0,
+        faults: Some(0),
         transcript: b"> iw phy phy0 interface add ap0 type __ap
 refused: no radio phy0
 > radio add phy0 bands 2,5 width 160 radar 160 power 3000 contexts 2
@@ -34,7 +34,7 @@ refused: no radio phy7
         name: "a radio has eight interfaces",
         text: RULES,
         failing: &[],
-        faults: 0,
+        faults: Some(0),
         transcript: b"> radio add phy0 bands 2,5 width 160 radar 160 power 3000 contexts 2
 ok
 > radio add phy1 bands 2 width 20 radar 0 power 2000 contexts 1
@@ -72,7 +72,7 @@ ok
         name: "only an interface that runs is stopped",
         text: RULES,
         failing: &[],
-        faults: 0,
+        faults: Some(0),
         transcript: b"> iw dev ap0 ap start home 2412 100 2
 refused: no interface ap0
 > iw dev ap0 ap start home 2413 100 2
@@ -100,7 +100,7 @@ refused: not running
         name: "a radio lacks channels and contexts",
         text: RULES,
         failing: &[],
-        faults: 0,
+        faults: Some(0),
         transcript: b"> radio add phy0 bands 2 width 20 radar 0 power 3000 contexts 1
 ok
 > iw phy phy0 interface add ap0 type __ap
@@ -135,7 +135,7 @@ started 2000
         name: "rules forbid channels",
         text: NARROW,
         failing: &[],
-        faults: 0,
+        faults: Some(0),
         transcript: b"> radio add phy0 bands 2,5 width 20 radar 0 power 3000 contexts 8
 ok
 > radio add phy1 bands 2,5 width 20 radar 20 power 3000 contexts 8
@@ -161,7 +161,7 @@ refused: no rule 5500
         name: "hints may be set already",
         text: RULES,
         failing: &[],
-        faults: 0,
+        faults: Some(0),
         transcript: b"> iw reg set 00
 hint already set
 > iw reg set US

@@ -5,12 +5,12 @@ use crate::refusals::REFUSED;
 use crate::swept::SWEPT;
 use std::test::Fail;
 
-const ANSWERED: [Case<'_>; 7] = [
+const ANSWERED: [Case<'_>; 8] = [
     Case {
         name: "starts follow the rules of the country",
         text: RULES,
         failing: &[],
-        faults: 0,
+        faults: Some(0),
         transcript: b"> radio add phy0 bands 2,5 width 160 radar 160 power 3000 contexts 2
 ok
 > iw phy phy0 interface add ap0 type __ap
@@ -46,7 +46,7 @@ line fault: unknown word 3
         name: "a database without countries has the rules of the world",
         text: b"",
         failing: &[],
-        faults: 0,
+        faults: Some(0),
         transcript: b"> radio add phy0 bands 2,5 width 160 radar 160 power 3000 contexts 2
 ok
 > iw phy phy0 interface add ap0 type __ap
@@ -61,7 +61,7 @@ started 2000
         name: "moments go on and are not too large",
         text: RULES,
         failing: &[],
-        faults: 0,
+        faults: Some(0),
         transcript: b"> at 5
 ok
 > at 4
@@ -79,7 +79,7 @@ refused: moment too large 1000000000000001
         name: "a radio may come after a moment",
         text: RULES,
         failing: &[],
-        faults: 0,
+        faults: Some(0),
         transcript: b"> at 60000
 ok
 > radio add phy0 bands 2,5 width 160 radar 160 power 3000 contexts 2
@@ -109,7 +109,7 @@ ok
         name: "two radios stand apart",
         text: RULES,
         failing: &[1],
-        faults: 1,
+        faults: Some(1),
         transcript: b"> radio add phy0 bands 2 width 20 radar 0 power 1500 contexts 1
 ok
 > radio add phy1 bands 5 width 80 radar 80 power 3000 contexts 1
@@ -145,7 +145,7 @@ started 2300
         name: "a start that its driver fails changes nothing",
         text: RULES,
         failing: &[1],
-        faults: 1,
+        faults: Some(1),
         transcript: b"> radio add phy0 bands 2,5 width 160 radar 160 power 3000 contexts 2
 ok
 > iw phy phy0 interface add ap0 type __ap
@@ -159,10 +159,30 @@ refused: busy
 ",
     },
     Case {
+        name: "a check that its driver fails doesn't begin",
+        text: RULES,
+        failing: &[1],
+        faults: Some(1),
+        transcript: b"> radio add phy0 bands 2,5 width 160 radar 160 power 3000 contexts 2
+ok
+> iw phy phy0 interface add ap0 type __ap
+ok
+> iw reg set US
+hint replaced
+> iw dev ap0 cac trigger freq 5260
+refused: driver failed
+> iw dev ap0 info
+ap0 1 phy0 __ap
+\ttxpower auto
+> iw dev ap0 cac trigger freq 5260
+checking 60000
+",
+    },
+    Case {
         name: "lines that ask nothing have no reply",
         text: RULES,
         failing: &[],
-        faults: 0,
+        faults: Some(0),
         transcript: b"> 
 > # a radio
 > radio add phy0 bands 2,5 width 160 radar 160 power 3000 contexts 2

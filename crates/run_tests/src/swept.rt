@@ -23,7 +23,7 @@ pub const SWEPT: [Case<'_>; 12] = [
         name: "a check frees its channel for its radio, until radar",
         text: RULES,
         failing: &[],
-        faults: 0,
+        faults: Some(0),
         transcript: b"> radio add phy0 bands 2,5 width 160 radar 160 power 3000 contexts 2
 ok
 > iw phy phy0 interface add ap0 type __ap
@@ -67,7 +67,7 @@ checking 60000
         name: "radar drops a running check",
         text: RULES,
         failing: &[],
-        faults: 0,
+        faults: Some(0),
         transcript: b"> radio add phy0 bands 2,5 width 160 radar 160 power 3000 contexts 2
 ok
 > iw phy phy0 interface add ap0 type __ap
@@ -95,7 +95,7 @@ refused: bad channel
         name: "a station follows the power of the rules",
         text: RULES,
         failing: &[],
-        faults: 0,
+        faults: Some(0),
         transcript: b"> radio add phy0 bands 2,5 width 160 radar 160 power 3000 contexts 2
 ok
 > iw phy phy0 interface add ap0 type __ap
@@ -125,7 +125,7 @@ refused: not running
         name: "a country element and a user's hint are joined",
         text: REGIONS,
         failing: &[],
-        faults: 0,
+        faults: Some(0),
         transcript: b"> radio add phy0 bands 2,5 width 160 radar 160 power 3000 contexts 2
 ok
 > iw phy phy0 interface add ap0 type __ap
@@ -157,7 +157,7 @@ refused: element not letters
         name: "what radar forbids stays, and checks go with the region",
         text: REGIONS,
         failing: &[],
-        faults: 0,
+        faults: Some(0),
         transcript: b"> radio add phy0 bands 2,5 width 160 radar 160 power 3000 contexts 2
 ok
 > iw phy phy0 interface add ap0 type __ap
@@ -184,7 +184,7 @@ refused: radar 5280
         name: "a check that isn't used stands for two seconds",
         text: REGIONS,
         failing: &[],
-        faults: 0,
+        faults: Some(0),
         transcript: b"> radio add phy0 bands 2,5 width 160 radar 160 power 3000 contexts 2
 ok
 > iw phy phy0 interface add ap0 type __ap
@@ -203,7 +203,7 @@ started 2400
         name: "and no longer",
         text: REGIONS,
         failing: &[],
-        faults: 0,
+        faults: Some(0),
         transcript: b"> radio add phy0 bands 2,5 width 160 radar 160 power 3000 contexts 2
 ok
 > iw phy phy0 interface add ap0 type __ap
@@ -224,7 +224,7 @@ checking 60000
         name: "an operation keeps its check",
         text: REGIONS,
         failing: &[],
-        faults: 0,
+        faults: Some(0),
         transcript: b"> radio add phy0 bands 2,5 width 160 radar 160 power 3000 contexts 2
 ok
 > iw phy phy0 interface add ap0 type __ap
@@ -257,7 +257,7 @@ refused: unchecked 5260
         name: "in the region ETSI a check stands on",
         text: REGIONS,
         failing: &[],
-        faults: 0,
+        faults: Some(0),
         transcript: b"> radio add phy0 bands 2,5 width 160 radar 160 power 3000 contexts 2
 ok
 > iw phy phy0 interface add ap0 type __ap
@@ -278,7 +278,7 @@ started 2000
         name: "320 MHz are for 6 GHz",
         text: b"country XX:\n\t(5925 - 7125 @ 320), (23)\n",
         failing: &[],
-        faults: 0,
+        faults: Some(0),
         transcript: b"> radio add phy0 bands 6 width 320 radar 0 power 3000 contexts 1
 ok
 > iw phy phy0 interface add ap0 type __ap
@@ -297,7 +297,7 @@ started 2300
         name: "a monitor moves to another channel, and its old one doesn't count",
         text: RULES,
         failing: &[],
-        faults: 0,
+        faults: Some(0),
         transcript: b"> radio add phy0 bands 2,5 width 160 radar 160 power 3000 contexts 1
 ok
 > iw phy phy0 interface add mon0 type monitor
@@ -320,7 +320,7 @@ refused: radio lacks context 1
         name: "powers, custom rules, a driver's hint and removals",
         text: RULES,
         failing: &[],
-        faults: 0,
+        faults: None,
         transcript: b"> radio add phy0 bands 2,5 width 160 radar 160 power 3000 contexts 2
 ok
 > iw phy phy0 interface add ap0 type __ap
