@@ -252,13 +252,7 @@ pub fn hold(rt: &impl Abort, alloc: Global, way: Way, cases: &[Case<'_>]) -> Res
     for case in cases {
         let (mut core, mut drivers) = opened(alloc, RULES, case.failing)?;
         let before = follow(alloc, way, &mut core, case.before, &mut drivers)?;
-        let then = follow(
-            alloc,
-            way,
-            &mut core,
-            case.transcript,
-            &mut drivers,
-        )?;
+        let then = follow(alloc, way, &mut core, case.transcript, &mut drivers)?;
         assert!(rt; before && then, "{}", case.name);
     }
     Ok(())

@@ -219,13 +219,7 @@ fn a_removed_radio_gives_its_driver_up(rt: HostRuntime) -> Result<(), Fail> {
     let alloc = rt.alloc();
     let (mut core, mut drivers) = opened(alloc, RULES, &[])?;
     let before = follow(alloc, Way::Step, &mut core, RADIO, &mut drivers)?;
-    let then = follow(
-        alloc,
-        Way::Step,
-        &mut core,
-        REMOVED,
-        &mut drivers,
-    )?;
+    let then = follow(alloc, Way::Step, &mut core, REMOVED, &mut drivers)?;
     assert!(rt; before && then);
     assert!(rt; matches!(drivers.as_slice(), [None, Some(_), ..]));
     Ok(())

@@ -135,12 +135,7 @@ fn stream_of(alloc: Global, case: &Case<'_>) -> Result<Bytes, Fail> {
 }
 
 /// The stream of the case is answered message by message, where each read gives at most so many bytes.
-fn is_answered_so(
-    rt: &impl Abort,
-    alloc: Global,
-    case: &Case<'_>,
-    piece: usize,
-) -> Result<(), Fail>
+fn is_answered_so(rt: &impl Abort, alloc: Global, case: &Case<'_>, piece: usize) -> Result<(), Fail>
     requires { 0 < piece }
 {
     let mut files = MemFiles::new(alloc, NAME, database(alloc, case.text)?)?;
