@@ -1,6 +1,6 @@
 -- Powers of ten, and that milliwatts have one value in mBm at most.
 use Rattle.std.proofs.Common.{◌≡◌, ℕ, ◌+◌, ◌-◌, ◌*◌, ◌/◌, ◌^◌, ◌<◌, ◌≤◌, inl, inr, arith, refl, add-one, sym, ap, subst, ◌∙◌, lit<}
-use Rattle.std.proofs.Math.Nat.{pow-le-pow_right, one-le-pow}
+use Rattle.std.proofs.Math.Nat.{mul-div-mul_right, pow-le-pow_right, one-le-pow}
 use Rattle.std.proofs.lemmas.Nat.{pow-add, le-div, div_below, mul-lt, mul-le}
 use Rattle.std.proofs.lemmas.Bool.{cases_lt}
 use Rattle.freq_range.specs.Power.{power, IsNextDecimal, IsMbm}
@@ -36,8 +36,8 @@ product_most p m i hp hm =
     let f : 10 ^ (14 + i) ≡ 10 ^ (13 + (i + 1)) = ap (λ n. 10 ^ n) (omega arith) in
     div_below (p * m) (10 ^ 12) (10 ^ (13 + (i + 1))) (lit< tt) (omega (arith, h, e, f))
 
-pub product_fits : (p m i : ℕ) → p < 10 ^ (13 + i) → m < 10 ^ 13 → i < 9 → p * m < 2 ^ 128
-product_fits p m i hp hm few =
+pub product_small : (p m i : ℕ) → p < 10 ^ (13 + i) → m < 10 ^ 13 → i < 9 → p * m < 10 ^ 35
+product_small p m i hp hm few =
     let h = product_below p m i hp hm in
     let e = pow-le-pow_right {n = 10} (lit< tt) {i = i} {j = 8} (omega arith) in
     omega (arith, h, e)
@@ -82,18 +82,37 @@ digits_most p n most low = exponent-le p n 21 low most
 pub whole_small : (mw whole : ℕ) → mw ≤ 1000000 → 10 ^ whole ≤ mw → whole ≤ 6
 whole_small mw whole most low = exponent-le mw whole 6 low (omega arith)
 
-pub pow-small : (n : ℕ) → n ≤ 9 → 10 ^ n < 2 ^ 128
-pow-small n few = let e = pow-le-pow_right {n = 10} (lit< tt) {i = n} {j = 9} few in omega (arith, e)
+pub pow-small : (n : ℕ) → n ≤ 12 → 10 ^ n ≤ 10 ^ 12
+pow-small n few = pow-le-pow_right {n = 10} (lit< tt) {i = n} {j = 12} few
 
-pub is_decimal : (m n : ℕ) → 12 ≤ n → 10 ^ n ≤ power m 9 → power m 9 < 10 * 10 ^ n → IsNextDecimal m (n - 12) (power m 9 / 10 ^ (n - 12))
-is_decimal m n above low high =
-    let e : 12 + (n - 12) ≡ n = omega arith in
-    let f : 13 + (n - 12) ≡ n + 1 = omega arith in
-    record {
-      least = rw e low;
-      most = rw (f, ten_more n) high;
-      left = refl;
-    }
+-- the number of digits over 10 ^ 12, as bounds
+pub decimal_least : (p n : ℕ) → 12 ≤ n → 10 ^ n ≤ p → 10 ^ (12 + (n - 12)) ≤ p
+decimal_least p n above low =
+    let same : 12 + (n - 12) ≡ n = omega arith in
+    rw same low
+
+pub decimal_most : (p n : ℕ) → 12 ≤ n → p < 10 * 10 ^ n → p < 10 ^ (13 + (n - 12))
+decimal_most p n above high =
+    let same : 13 + (n - 12) ≡ n + 1 = omega arith in
+    rw (same, ten_more n) high
+
+-- factors of ten are taken out by one division by 10 ^ 12, where the others are multiplied in before
+pub factors_fit : (p d : ℕ) → p < 10 ^ 22 → d ≤ 9 → p * 10 ^ (12 - d) < 10 ^ 35
+factors_fit p d below few =
+    let e = pow-small (12 - d) (omega arith) in
+    let h = mul-lt p (10 ^ (12 - d)) (10 ^ 22) (10 ^ 12 + 1) below (omega (arith, e)) in
+    omega (arith, h)
+
+pub factors_out : (p d : ℕ) → d ≤ 9 → p * 10 ^ (12 - d) / 10 ^ 12 ≡ p / 10 ^ d
+factors_out p d few =
+    let all : d + (12 - d) ≡ 12 = omega arith in
+    let e : 10 ^ 12 ≡ 10 ^ d * 10 ^ (12 - d) = ap (λ n. 10 ^ n) (sym all) ∙ pow-add 10 d (12 - d) in
+    ap (λ n. p * 10 ^ (12 - d) / n) e ∙ mul-div-mul_right p (10 ^ d) (ten_pos (12 - d))
+
+pub tenth_below : (p d : ℕ) → p < 10 ^ (13 + d) → d < 10 → p < 10 ^ 22
+tenth_below p d most few =
+    let e = pow-le-pow_right {n = 10} (lit< tt) {i = 13 + d} {j = 22} (omega arith) in
+    omega (arith, most, e)
 
 -- a number has one next decimal, and one rest
 pub one_decimal : (m d e next next' : ℕ) → IsNextDecimal m d next → IsNextDecimal m e next' → (d ≡ e) × (next ≡ next')
@@ -112,8 +131,3 @@ one_mbm mw a b x y =
     let q = one_decimal _ _ _ _ _ x.is_second (subst (λ (n : ℕ). IsNextDecimal n y.second y.after_second) (sym p.1) y.is_second) in
     let r = one_decimal _ _ _ _ _ x.is_third (subst (λ (n : ℕ). IsNextDecimal n y.third y.after_third) (sym q.1) y.is_third) in
     omega (arith, x.sum, y.sum, w, p.0, q.0, r.0)
-
-pub left_most_of : (p n : ℕ) → 12 ≤ n → p < 10 * 10 ^ n → p / 10 ^ (n - 12) < 10 ^ 13
-left_most_of p n above high =
-    let f : 13 + (n - 12) ≡ n + 1 = omega arith in
-    left_most p (n - 12) (rw (f, ten_more n) high)

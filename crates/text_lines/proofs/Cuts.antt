@@ -1,14 +1,15 @@
 -- What stands before the first such byte, and what is behind it.
-use Rattle.std.proofs.Common.{◌≡◌, ℕ, ◌+◌, ◌-◌, ◌<◌, ◌≤◌, List, [], ◌∷◌, ◌++◌, Bool, true, false, length, get_or, take, drop, Option, Some, None, refl, ap, ◌∙◌, arith, append_assoc, append-nil, cond}
+use Rattle.std.proofs.Common.{◌≡◌, ℕ, ◌+◌, ◌-◌, ◌<◌, ◌≤◌, List, [], ◌∷◌, ◌++◌, Bool, true, false, length, get_or, take, drop, Option, Some, None, refl, ap, ◌∙◌, arith, cond, suc, zero}
 use Rattle.std.specs.Prelude.{All, ◌==◌}
 use Rattle.std.specs.List.{slice_split, onto_first}
 use Rattle.std.proofs.lemmas.Bool.Decides.{nat_tests}
-use Rattle.std.proofs.lemmas.List.{at_drop_more, at_drop_all, take_rest, take_all, take_more}
-use Rattle.std.proofs.lemmas.List.Elements.{All-head, All-tail}
+use Rattle.std.proofs.lemmas.List.{take_rest}
+use Rattle.std.proofs.lemmas.List.Elements.{All-from_get_or, All-head, All-tail}
 use Rattle.std.proofs.lemmas.Option.{same_Some}
 use denote.Ref.{Bor}
 use Rattle.std.specs.Option.{option_copied}
 use Rattle.std.specs.Prelude.{IfSome, MatchOption}
+use Rattle.memchr.specs.Find.{IsFirstByte, is_byte}
 use Rattle.text_lines.specs.Lines.{text_lines}
 use Rattle.text_lines.specs.inner.Reading.{front_of, behind_of, parts_of}
 
@@ -40,34 +41,6 @@ behind_of-other byte b bs h = rw (test_false b byte h) refl
 pub behind_of-end : (byte : ℕ) → behind_of byte [] ≡ None
 unfolding behind_of
 behind_of-end byte = refl
-
--- ---- from a place on
-
-pub front-more : (byte : ℕ) (bytes : List ℕ) (i : ℕ) → i < length bytes → (get_or bytes i 0 ≡ byte → ⊥) → take (i + 1) bytes ++ front_of byte (drop (i + 1) bytes) ≡ take i bytes ++ front_of byte (drop i bytes)
-front-more byte bytes i lt other =
-    let here : front_of byte (drop i bytes) ≡ get_or bytes i 0 ∷ front_of byte (drop (i + 1) bytes) = at_drop_more (front_of byte) bytes i 0 lt ∙ front_of-other byte (get_or bytes i 0) (drop (i + 1) bytes) other in
-    rw (take_more bytes i 0 lt, here) (append_assoc (take i bytes) (get_or bytes i 0 ∷ []) (front_of byte (drop (i + 1) bytes)))
-
-pub front-here : (byte : ℕ) (bytes : List ℕ) (i : ℕ) → i < length bytes → get_or bytes i 0 ≡ byte → take i bytes ++ front_of byte (drop i bytes) ≡ take i bytes
-front-here byte bytes i lt here =
-    let none : front_of byte (drop i bytes) ≡ [] = at_drop_more (front_of byte) bytes i 0 lt ∙ rw here (front_of-found byte (drop (i + 1) bytes)) in
-    rw none (append-nil _)
-
-pub front-end : (byte : ℕ) (bytes : List ℕ) (i : ℕ) → length bytes ≤ i → take i bytes ++ front_of byte (drop i bytes) ≡ bytes
-front-end byte bytes i le =
-    let none : front_of byte (drop i bytes) ≡ [] = at_drop_all (front_of byte) bytes i le ∙ front_of-end byte in
-    rw (none, take_all i bytes le) (append-nil _)
-
-pub behind-more : (byte : ℕ) (bytes : List ℕ) (i : ℕ) → i < length bytes → (get_or bytes i 0 ≡ byte → ⊥) → behind_of byte (drop i bytes) ≡ behind_of byte (drop (i + 1) bytes)
-behind-more byte bytes i lt other = at_drop_more (behind_of byte) bytes i 0 lt ∙ behind_of-other byte (get_or bytes i 0) (drop (i + 1) bytes) other
-
-pub behind-here : (byte : ℕ) (bytes : List ℕ) (i : ℕ) → i < length bytes → get_or bytes i 0 ≡ byte → behind_of byte (drop i bytes) ≡ Some (take (length bytes - (i + 1)) (drop (i + 1) bytes))
-behind-here byte bytes i lt here = at_drop_more (behind_of byte) bytes i 0 lt ∙ rw (take_rest, here) (behind_of-found byte (drop (i + 1) bytes))
-
-pub behind-end : (byte : ℕ) (bytes : List ℕ) (i : ℕ) → length bytes ≤ i → behind_of byte (drop i bytes) ≡ None
-behind-end byte bytes i le = at_drop_all (behind_of byte) bytes i le ∙ behind_of-end byte
-
-pub ruleset steps = (front-more, front-here, front-end, behind-more, behind-here, behind-end)
 
 -- ---- as parts
 
@@ -136,3 +109,49 @@ cut-reads byte (b ∷ bs) rest e = onto byte b bs rest (b == byte) refl (cut-rea
 pub lines-cut : (text front : List ℕ) (behind : Option (Bor (List ℕ))) → front ≡ front_of 10 text → MatchOption behind (behind_of 10 text ≡ None) (λ rest. behind_of 10 text ≡ Some rest.now) → MatchOption behind (text_lines text ≡ front ∷ []) (λ rest. text_lines text ≡ front ∷ text_lines rest.now)
 lines-cut text front None is none = parts-cut 10 text ∙ rw (none, ← is) refl
 lines-cut text front (Some rest) is more = parts-cut 10 text ∙ rw (more, ← is) refl
+
+-- ---- by the place of the byte
+
+is_false : (b : Bool) → (b ≡ true → ⊥) → b ≡ false
+is_false true h = absurd (h refl)
+is_false false h = refl
+
+-- a byte that fails the test is another one
+other_byte : (byte b : ℕ) → (b == byte) ≡ false → b ≡ byte → ⊥
+other_byte byte b is same = grind (arith, nat_tests)
+
+-- what stands before the byte where it stands at place k, and not before
+front-place : (byte : ℕ) (bytes : List ℕ) (k : ℕ) → k < length bytes → ((j : ℕ) → j < k → get_or bytes j 0 ≡ byte → ⊥) → get_or bytes k 0 ≡ byte → front_of byte bytes ≡ take k bytes
+front-place byte [] k lt before here = absurd (omega arith)
+front-place byte (b ∷ bs) zero lt before here = ap (λ x. front_of byte (x ∷ bs)) here ∙ front_of-found byte bs
+front-place byte (b ∷ bs) (suc k) lt before here =
+    front_of-other byte b bs (before 0 (omega arith)) ∙ ap (λ (ys : List ℕ). b ∷ ys) (front-place byte bs k (omega arith) (λ j below. before (suc j) (omega arith)) here)
+
+-- what is behind it there
+behind-place : (byte : ℕ) (bytes : List ℕ) (k : ℕ) → k < length bytes → ((j : ℕ) → j < k → get_or bytes j 0 ≡ byte → ⊥) → get_or bytes k 0 ≡ byte → behind_of byte bytes ≡ Some (drop (suc k) bytes)
+behind-place byte [] k lt before here = absurd (omega arith)
+behind-place byte (b ∷ bs) zero lt before here = ap (λ x. behind_of byte (x ∷ bs)) here ∙ behind_of-found byte bs
+behind-place byte (b ∷ bs) (suc k) lt before here =
+    behind_of-other byte b bs (before 0 (omega arith)) ∙ behind-place byte bs k (omega arith) (λ j below. before (suc j) (omega arith)) here
+
+-- a byte that stands at no place is not in the list
+lacks-byte : (byte : ℕ) (bytes : List ℕ) → IsFirstByte (is_byte byte) bytes None → All (λ b. b ≡ byte → ⊥) bytes
+lacks-byte byte bytes h = All-from_get_or (λ b. b ≡ byte → ⊥) bytes 0 (λ k lt. other_byte byte _ (is_false _ (h k (omega arith) lt)))
+
+same_byte : (byte b : ℕ) → (b == byte) ≡ true → b ≡ byte
+same_byte byte b is = grind (arith, nat_tests)
+
+pub front-at : (byte : ℕ) (bytes : List ℕ) (r : Option ℕ) → IsFirstByte (is_byte byte) bytes r → MatchOption r (front_of byte bytes ≡ bytes) (λ k. front_of byte bytes ≡ take k bytes)
+front-at byte bytes None h = front_of-whole byte bytes (lacks-byte byte bytes h)
+front-at byte bytes (Some k) h =
+    front-place byte bytes k h.0.high (λ j below. other_byte byte _ (is_false _ (h.0.before j (omega arith) below))) (same_byte byte _ h.1)
+
+plus_one : (k : ℕ) → k + 1 ≡ suc k
+plus_one k = omega arith
+
+pub behind-at : (byte : ℕ) (bytes : List ℕ) (r : Option ℕ) → IsFirstByte (is_byte byte) bytes r → MatchOption r (behind_of byte bytes ≡ None) (λ k. behind_of byte bytes ≡ Some (take (length bytes - (k + 1)) (drop (k + 1) bytes)))
+behind-at byte bytes None h = behind_of-none byte bytes (lacks-byte byte bytes h)
+behind-at byte bytes (Some k) h =
+    rw (take_rest, plus_one k) (behind-place byte bytes k h.0.high (λ j below. other_byte byte _ (is_false _ (h.0.before j (omega arith) below))) (same_byte byte _ h.1))
+
+pub ruleset cut_steps = (front-at, behind-at)

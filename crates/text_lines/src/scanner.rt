@@ -4,6 +4,8 @@ ghost use Rattle.std.specs.Prelude.{◌≡◌, ◌<◌, length, IfSome, MatchOpt
 ghost use Rattle.reg_base.specs.Texts.{same_bytes};
 ghost use Rattle.text_lines.specs.inner.Reading.{after_byte, after_word, behind_digits, behind_of, front_of, digits_of, digits_at, begins_with, titled_at};
 
+use memchr::memchr;
+
 /// What is behind the byte, where it stands first.
 #[tactic(auto, unfolding(crate::specs::inner::Reading::after_byte))]
 pub fn after_byte(bytes: &[u8], byte: u8) -> Option<&[u8]>
@@ -42,18 +44,16 @@ pub fn is_word(bytes: &[u8], word: &[u8]) -> bool
 }
 
 /// What stands before the first such byte, and what is behind it, if there is one.
-#[tactic(auto, using(crate::proofs::Cuts::steps))]
+#[tactic(auto, using(crate::proofs::Cuts::cut_steps))]
 pub fn cut_at(bytes: &[u8], byte: u8) -> (&[u8], Option<&[u8]>)
     ensures front { result.0.now ≡ front_of byte bytes.now }
     ensures behind { MatchOption result.1 (behind_of byte bytes.now ≡ None) (λ rest. behind_of byte bytes.now ≡ Some rest.now) }
     ensures shorter { IfSome result.1 (λ rest. length rest.now < length bytes.now) }
 {
-    for (i, found) in bytes.iter().enumerate() {
-        if *found == byte {
-            return (&bytes[..i], Some(&bytes[i + 1..]));
-        }
+    match memchr(byte, bytes) {
+        Some(place) => (&bytes[..place], Some(&bytes[place + 1..])),
+        None => (bytes, None),
     }
-    (bytes, None)
 }
 
 /// What stands between the word and the first colon, and what is behind the colon.
