@@ -5,11 +5,12 @@ use Rattle.std.proofs.lemmas.List.{get_or_append_left, get_or_push, length-appen
 use Rattle.freq_range.specs.First.{IsFirst}
 use Rattle.freq_range.specs.declared.rule.Rule.{Rule}
 use Rattle.rule_tables.proofs.Dropped.{DropsRepeats-keeps, DropsRepeats-only}
+use Rattle.rule_tables.specs.Distinct.{IsPushedNew}
 use Rattle.rule_tables.specs.FileFormat.{u8_at, DropsRepeats, RuleAt, RulesAt, pointers_of, target_at}
 use Rattle.rule_tables.specs.FileFaults.{HasRegion, IsCollectionFault, IsFaultyRule, rule_place}
 use Rattle.rule_tables.specs.declared.code.Alpha2.{Alpha2}
 use Rattle.rule_tables.specs.declared.file_fault.DbFault.{DbFault}
-use Rattle.db_reader.specs.inner.Parts.{AreFirstRules, IsCollectionStop, IsPushedNew, IsRuleStop, IsRulesFault, IsRulesStop, rule_fault}
+use Rattle.db_reader.specs.inner.Parts.{AreFirstRules, IsCollectionStop, IsRuleStop, IsRulesFault, IsRulesStop, rule_fault}
 use Rattle.db_reader.specs.declared.fault.ReadFault.{ReadFault}
 use Rattle.db_reader.specs.declared.fault.ReadFault.TheVariants.{Bad, OutOfMemory}
 use Rattle.db_reader.specs.declared.rule_record.RuleStop.{RuleStop}

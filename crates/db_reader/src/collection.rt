@@ -1,17 +1,16 @@
 //! Collections of rules in a file.
 
-ghost use Rattle.std.specs.Prelude.{◌≡◌, ◌<◌, ◌≤◌, ◌↔◌, IsTrue, MatchOption, MatchResult, OnOk};
+ghost use Rattle.std.specs.Prelude.{◌≡◌, ◌<◌, ◌≤◌, ◌↔◌, IsTrue, MatchOption, MatchResult};
 ghost use Rattle.rule_tables.specs.Regions.{region_number};
 ghost use Rattle.rule_tables.specs.FileFormat.{CollectionAt, pointers_of};
 ghost use Rattle.rule_tables.specs.FileFaults.{HasCollection};
-ghost use Rattle.db_reader.specs.inner.Parts.{AreRulesOf, IsCollectionStop, IsPushedNew, IsRulesStop, rule_fault};
+ghost use Rattle.db_reader.specs.inner.Parts.{AreRulesOf, IsCollectionStop, IsRulesStop, rule_fault};
 
 use crate::fault::ReadFault;
 use crate::numbers::{is_within, target_at, u8_at};
 use crate::rule_record::{RuleStop, read_rule};
-use freq_range::{Rule, RuleList, contains_rule};
-use reg_lists::OutOfMemory;
-use rule_tables::{Alpha2, DbFault, Domain, Region};
+use freq_range::RuleList;
+use rule_tables::{Alpha2, DbFault, DistinctRules, Domain, Region};
 use std::alloc::Global;
 
 /// The place of the first pointer of the collection at that place.
@@ -74,25 +73,14 @@ fn read_rules(
 {
     let pointers = pointers_of(bytes, place);
     let count = usize::from(u8_at(bytes, place + 1));
-    let mut rules = RuleList::new(alloc);
+    let mut rules = DistinctRules::with_capacity(alloc, count)?;
     for k in 0..count {
         match read_rule(bytes, target_at(bytes, pointers + 2 * k)) {
-            Ok(rule) => push_new(&mut rules, rule)?,
+            Ok(rule) => rules.push_new(rule)?,
             Err(stop) => return Err(ReadFault::Bad(rule_fault(alpha2, k, stop))),
         }
     }
-    Ok(rules)
-}
-
-/// Appends a rule that isn't there.
-fn push_new(rules: &mut RuleList, rule: Rule) -> Result<(), OutOfMemory>
-    ensures { OnOk result (IsPushedNew rules.old rules.new rule) }
-{
-    if contains_rule(rules.as_slice(), &rule) {
-        return Ok(());
-    }
-    rules.push(rule)?;
-    Ok(())
+    Ok(rules.into_list())
 }
 
 /// The domain of that code whose collection stands at that place.

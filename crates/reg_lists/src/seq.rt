@@ -1,6 +1,6 @@
 //! A list that grows.
 
-ghost use Rattle.std.specs.Prelude.{◌≡◌, ◌==◌, ◌<◌, ◌+◌, [], ◌∷◌, ◌++◌, Some, drop, length, slice_get, take, OnOk, OnErr};
+ghost use Rattle.std.specs.Prelude.{◌≡◌, ◌==◌, ◌<◌, ◌+◌, [], ◌∷◌, ◌++◌, Some, drop, length, slice_get, take, IfOk, OnOk, OnErr};
 ghost use Rattle.std.specs.Borrow.{Array, Lends, sem};
 ghost use Rattle.std.specs.Option.{option_copied};
 ghost use Rattle.reg_lists.specs.contracts.seq.Seq.{the_row};
@@ -31,6 +31,15 @@ impl<T: Drop> Seq<T> {
         Seq {
             items: Vec::new(alloc),
         }
+    }
+
+    /// Empty, with room for so many items.
+    pub fn with_capacity(alloc: Global, room: usize) -> Result<Self, OutOfMemory>
+        ensures empty { IfOk result (λ s. s ≡ []) }
+    {
+        Ok(Seq {
+            items: Vec::with_capacity(alloc, room)?,
+        })
     }
 
     /// Where it takes memory from.

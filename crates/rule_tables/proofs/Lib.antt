@@ -1,7 +1,6 @@
 pub mod Inserted
 pub mod Ascending
 pub mod InOrder
-pub mod Refused
 pub mod Repeats
 pub mod Dropped
 pub mod Widths

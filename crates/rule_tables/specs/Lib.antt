@@ -1,5 +1,6 @@
 pub mod Code
 pub mod Databases
+pub mod Distinct
 pub mod Domains
 pub mod FileFaults
 pub mod FileFormat

@@ -132,27 +132,25 @@ impl Db {
         if let Some(fault) = refusal(self.domains.as_slice(), &domain) {
             return Err(fault);
         }
-        let place = place_of(self.domains.as_slice(), &domain.alpha2);
-        match self.domains.insert(place, domain) {
+        match self.insert_new(domain) {
             Ok(()) => Ok(()),
-            Err(_refused) => Err(DbInsertFault::OutOfMemory),
+            Err(_none) => Err(DbInsertFault::OutOfMemory),
         }
     }
 
-    /// Puts a domain of a new code in its place. Memory alone may refuse it.
+    /// Puts a domain of a new code in its place. Memory alone may refuse it, which changes nothing.
+    /// What the caller has shown of the domain isn't tested once more.
     pub fn insert_new(&mut self, domain: Domain) -> Result<(), OutOfMemory>
         requires fresh { HasCode self.old domain.alpha2 → ⊥ }
         requires domain { IsDomain domain }
         ensures ok { OnOk result (Inserts self.old self.new domain) }
+        ensures err { OnErr result (self.new ≡ self.old) }
         ensures db { IsDb self.new }
     {
-        match self.insert(domain) {
+        let place = place_of(self.domains.as_slice(), &domain.alpha2);
+        match self.domains.insert(place, domain) {
             Ok(()) => Ok(()),
-            Err(DbInsertFault::OutOfMemory) => Err(OutOfMemory),
-            Err(DbInsertFault::Twice) => unreachable!(),
-            Err(DbInsertFault::BadCode) => unreachable!(),
-            Err(DbInsertFault::Repeated(_)) => unreachable!(),
-            Err(DbInsertFault::Bad(_)) => unreachable!(),
+            Err(_refused) => Err(OutOfMemory),
         }
     }
 

@@ -3,6 +3,7 @@
 
 mod code;
 mod database;
+mod distinct_rules;
 mod domain;
 mod file_fault;
 mod govern;
@@ -13,6 +14,7 @@ mod world;
 
 pub use code::{Alpha2, Region};
 pub use database::{Db, DbInsertFault};
+pub use distinct_rules::DistinctRules;
 pub use domain::{Domain, DomainFault};
 pub use file_fault::DbFault;
 pub use govern::governing;

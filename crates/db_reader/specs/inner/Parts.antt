@@ -1,5 +1,5 @@
 -- What the parts of a file say, for private functions alone: each is read by itself.
-use Rattle.std.specs.Prelude.{◌≡◌, ℕ, ◌+◌, ◌⊎◌, nat_le, if◌then◌else◌, List, [], ◌∷◌, ◌++◌, length, reverse, Contains, None}
+use Rattle.std.specs.Prelude.{◌≡◌, ℕ, ◌+◌, nat_le, if◌then◌else◌, List, length, reverse, None}
 use Rattle.freq_range.specs.First.{IsFirst}
 use Rattle.freq_range.specs.declared.rule.Rule.{Rule}
 use Rattle.rule_tables.specs.Databases.{HasCode, IsDomain}
@@ -33,10 +33,6 @@ IsRuleStop b i NoWmm = IsRuleAt b i × NamesBadWmm b i
 abbrev pub rule_fault : Alpha2 → ℕ → RuleStop → DbFault
 rule_fault c k NoRule = BadRule c k
 rule_fault c k NoWmm = BadWmm c k
-
--- what a list of rules becomes where a rule is appended unless it is there
-abbrev pub IsPushedNew : List Rule → List Rule → Rule → Type 0
-IsPushedNew old new r = (Contains old r × (new ≡ old)) ⊎ ((Contains old r → ⊥) × (new ≡ old ++ r ∷ []))
 
 -- the rules are those of the first n pointers of the collection at place i, repeats dropped
 abbrev pub AreFirstRules : List ℕ → ℕ → ℕ → List Rule → Type 0

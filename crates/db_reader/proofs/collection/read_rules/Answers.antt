@@ -21,5 +21,5 @@ loop-k-preserved c =
     let k = c.loop-k.k in
     let place : c.target_at.result ≡ rule_place b c.args.place k =
     c.target_at.ensures.target ∙ ap (λ p. target_at b (p + 2 * k)) c.pointers_of-pointers.ensures.pointers in
-    collected_more b c.args.place k c.loop-k.rules c.push_new.new.rules c.in-Ok.rule c.loop-k.invariant
-    (subst (λ i. RuleAt b i c.in-Ok.rule) place c.in-Ok.ensures) c.in_ok-push_new-in-Ok.ensures
+    collected_more b c.args.place k c.loop-k.rules c.push_new.new.self c.in-Ok.rule c.loop-k.invariant
+    (subst (λ i. RuleAt b i c.in-Ok.rule) place c.in-Ok.ensures) c.in_ok-push_new-in-Ok.ensures.ok

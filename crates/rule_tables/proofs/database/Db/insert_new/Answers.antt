@@ -1,16 +1,32 @@
-use Rattle.std.proofs.Common.{◌≡◌}
-use Rattle.rule_tables.specs.declared.database.DbInsertFault.TheVariants.{Repeated, Bad, OutOfMemory}
-use Rattle.rule_tables.proofs.Refused.{only_memory}
+use Rattle.std.proofs.Common.{insert, refl}
+use Rattle.rule_tables.specs.Databases.{IsDb}
+use Rattle.rule_tables.proofs.Inserted.{IsDb-insert}
 use Rattle.rule_tables.proofs.database.Db.insert_new.Goals as goal
+use Rattle.rule_tables.proofs.database.Db.insert_new.Goals.{in-Ok, in-Err}
 
-pub unreachable-requires-in-Err-Repeated : goal.unreachable-requires-in-Err-Repeated
-unreachable-requires-in-Err-Repeated c =
-    let other : Repeated c.in-Err-Repeated.field-0-0 ≡ OutOfMemory =
-    only_memory _ _ _ c.requires.fresh c.requires.domain (rw c.in-Err-Repeated.field-0-is at c.in-Err-Repeated.ensures.cause) in
-    cc
+-- the domains with the new one in its place are a database
+kept : (c : goal.Joined-insert) → IsDb (insert c.self.inside.domains.items c.place_of-place.result c.args.domain)
+kept c =
+    let slice = c.as_slice.ensures.value in
+    IsDb-insert c.self.inside.domains.items c.args.domain c.place_of-place.result c.self.invariant
+    (rw (← c.self.view_is) at c.requires.fresh) c.requires.domain (rw slice at c.place_of-place.ensures.within)
+    (rw slice at c.place_of-place.ensures.below) (rw slice at c.place_of-place.ensures.at)
 
-pub unreachable-requires-in-Err-Bad : goal.unreachable-requires-in-Err-Bad
-unreachable-requires-in-Err-Bad c =
-    let other : Bad c.in-Err-Bad.field-0-0 ≡ OutOfMemory =
-    only_memory _ _ _ c.requires.fresh c.requires.domain (rw c.in-Err-Bad.field-0-is at c.in-Err-Bad.ensures.cause) in
-    cc
+pub invariant_of-self : goal.invariant_of-self
+invariant_of-self c = elim c.match-insert.branch [
+  | in-Ok w ↦ rw w.in-Ok.ensures.items (kept c)
+  | in-Err w ↦ rw w.in-Err.ensures.items c.self.invariant
+]
+
+pub returns-clause-db : goal.returns-clause-db
+returns-clause-db c = invariant_of-self c
+
+pub returns-clause-ok : goal.returns-clause-ok
+returns-clause-ok c = elim c.match-insert.branch [
+  | in-Ok w ↦ rw (w.result-is, w.in-Ok.ensures.items, ← c.self.view_is) (record {
+    fresh = rw (← c.self.view_is) at c.requires.fresh;
+    is_domain = c.requires.domain;
+    place = (c.place_of-place.result, rw c.as_slice.ensures.value at c.place_of-place.ensures.within, refl);
+  })
+  | in-Err w ↦ rw w.result-is tt
+]
