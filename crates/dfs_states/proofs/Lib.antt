@@ -1,4 +1,5 @@
 pub mod Asked
+pub mod Beside
 pub mod Begun
 pub mod Blank
 pub mod Checks

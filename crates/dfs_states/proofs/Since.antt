@@ -22,7 +22,7 @@ stood_before opening f calls khz end same ended stands = record {
   ];
 }
 
-none_kept : (opening : Bool) (f : Call) (calls : List Call) (khz : ℕ) → lasts_of opening (f ∷ calls) ≡ lasts_of opening calls
+pub none_kept : (opening : Bool) (f : Call) (calls : List Call) (khz : ℕ) → lasts_of opening (f ∷ calls) ≡ lasts_of opening calls
     → ((end : ℕ) → CheckEnded (f ∷ calls) khz end → CheckEnded calls khz end) → NoCheckStands opening calls khz → NoCheckStands opening (f ∷ calls) khz
 none_kept opening f calls khz same back none = λ end stands. none end (stood_before opening f calls khz end same (back end stands.ended) stands)
 

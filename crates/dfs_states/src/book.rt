@@ -14,6 +14,7 @@ use crate::place::{
     Place, advance_each, begin_check, change_region, meet_radar, place_of, settle_each,
 };
 use crate::slot::IfSlot;
+use crate::span::reach_of;
 use chan_def::{ChanDef, MOST_IFACES};
 use reg_lists::OutOfMemory;
 use std::alloc::Global;
@@ -123,9 +124,12 @@ impl DfsBook {
             → MayBeCalled calls (Operate iface (option_copied chan.entry))
             → BookStandsFor self.new channels opening (Operate iface (option_copied chan.entry) ∷ calls) }
     {
+        let slot = iface.place();
+        let begun = chan.copied();
+        let reach = reach_of(&self.operations, slot, &begun);
         let places = self.places.as_mut_slice();
-        settle_each(self.moment, self.lasts, &self.operations, places);
-        self.operations[iface.place()] = chan.copied();
+        settle_each(self.moment, self.lasts, &self.operations, &reach, places);
+        self.operations[slot] = begun;
     }
 
     /// The region of the radio has changed (`reg_get_dfs_region`). In the new one checks last, as in that

@@ -11,6 +11,7 @@ mod moments;
 mod operation;
 mod place;
 mod slot;
+mod span;
 
 pub use book::DfsBook;
 pub use dfs::Dfs;

@@ -6,12 +6,13 @@ ghost use Rattle.dfs_states.specs.Calls.{Call, Advance, Radar, Begin, Operate, R
 ghost use Rattle.dfs_states.specs.Greatest.{IsMost};
 ghost use Rattle.dfs_states.specs.Meaning.{EachMayBeCalled, IsBookState};
 ghost use Rattle.dfs_states.specs.StandsFor.{AreChecks, IsPlace};
-ghost use Rattle.dfs_states.specs.inner.Steps.{EachFollows, PlaceFollows, IsEnded, IsPresent, IsRemaining};
+ghost use Rattle.dfs_states.specs.inner.Steps.{EachFollows, PlaceFollows, IsEnded, IsPresent, IsReach, IsRemaining};
 
 use crate::check::{Check, end_of};
 use crate::dfs::Dfs;
 use crate::moments::{LAST_MOMENT_MS, NONOCCUPANCY_MS, is_long_ago, later};
 use crate::operation::some_operates_on;
+use crate::span::Span;
 use chan_def::{ChanDef, MOST_IFACES, covers};
 
 /// What is known of a channel of 20 MHz.
@@ -133,6 +134,18 @@ impl Place {
         }
     }
 
+    /// An operation begins or ends in a slot, inside this span. Outside of it nothing is written: the channel
+    /// is in use after it as it was before it.
+    fn settle(&mut self, now: u64, lasts: bool, operations: &[Option<ChanDef>], reach: &Span)
+        ensures { (slot : ℕ) (chan : Option ChanDef) → IsReach operations.now slot chan reach.now
+            → PlaceFollows (IsPresent now lasts operations.now) (Operate slot chan) self.old self.new }
+    {
+        if !reach.holds(self.khz) {
+            return;
+        }
+        *self = self.settled(now, lasts, operations);
+    }
+
     /// After the beginning of a check. One of length 0 is done at once.
     fn after_begin(&self, now: u64, slot: usize, c: &ChanDef, length_ms: u32) -> Place
         requires { slot < MOST_IFACES }
@@ -199,18 +212,19 @@ pub(crate) fn change_region(lasts: bool, places: &mut [Place])
     }
 }
 
-/// An operation begins or ends.
+/// An operation begins or ends in a slot, inside this span.
 pub(crate) fn settle_each(
     now: u64,
     lasts: bool,
     operations: &[Option<ChanDef>],
+    reach: &Span,
     places: &mut [Place],
 )
-    ensures { (slot : ℕ) (chan : Option ChanDef)
+    ensures { (slot : ℕ) (chan : Option ChanDef) → IsReach operations.now slot chan reach.now
         → EachFollows (PlaceFollows (IsPresent now lasts operations.now) (Operate slot chan)) places.old places.new }
 {
     for place in places.iter_mut() {
-        *place = place.settled(now, lasts, operations);
+        place.settle(now, lasts, operations, reach);
     }
 }
 

@@ -10,6 +10,7 @@ ghost use Rattle.rule_tables.specs.declared.domain.Domain.{Domain};
 
 use crate::code::Alpha2;
 use crate::domain::{Domain, DomainFault};
+use crate::search::domain_with;
 use freq_range::{Rule, contains_rule};
 use reg_lists::OutOfMemory;
 use std::alloc::{AllocFailed, Global};
@@ -158,7 +159,7 @@ impl Db {
     pub fn find(&self, alpha2: Alpha2) -> Option<&Domain>
         ensures { MatchOption result (HasCode self.now alpha2 → ⊥) (λ d. Contains self.now d.now × (d.now.alpha2 ≡ alpha2)) }
     {
-        find_in(self.domains.as_slice(), alpha2)
+        domain_with(self.domains.as_slice(), alpha2)
     }
 
     /// How many domains there are.

@@ -8,6 +8,7 @@ mod domain;
 mod file_fault;
 mod govern;
 mod run_widths;
+mod search;
 mod shared;
 mod width;
 mod world;

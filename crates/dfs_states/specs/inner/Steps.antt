@@ -7,6 +7,7 @@ use Rattle.dfs_states.specs.Meaning.{EachMayBeCalled}
 use Rattle.dfs_states.specs.StandsFor.{IsCheck, AreOperations, IsLongAgo, IsPlace}
 use Rattle.dfs_states.specs.declared.check.Check.{Check}
 use Rattle.dfs_states.specs.declared.place.Place.{Place}
+use Rattle.dfs_states.specs.declared.span.Span.{Span}
 
 -- each element of the new list follows the one at its place in the old list
 pub record EachFollows {X : Type 0} (Follows : X → X → Type 0) (old new : List X) : Type 0 where
@@ -29,6 +30,16 @@ pub record IsPresent (now : ℕ) (lasts : Bool) (operations : List (Option ChanD
 -- the operation covers the channel with this centre, in kHz
 abbrev pub OperatesOn : ℕ → Option ChanDef → Type 0
 OperatesOn khz operation = IsSomeAnd operation (λ chan. IsCovered chan khz)
+
+-- the frequency, in kHz, is one of the span's
+pub record IsWithin (span : Span) (khz : ℕ) : Type 0 where
+  pub from : span.low ≤ khz
+  pub to : khz ≤ span.high
+
+-- the span holds the centres of the subchannels of the slot's operation, and of those of the channel on which it operates next
+pub record IsReach (operations : List (Option ChanDef)) (slot : ℕ) (chan : Option ChanDef) (span : Span) : Type 0 where
+  pub ended : (khz : ℕ) → OperatesOn khz (slice_index_or operations slot None) → IsWithin span khz
+  pub begun : (khz : ℕ) → OperatesOn khz chan → IsWithin span khz
 
 -- what is left of a check, where checks last or lapse and its channel is in use or not: nothing where it has lapsed
 abbrev pub IsRemaining : ℕ → Bool → Bool → Place → Option ℕ → Type 0
