@@ -1,12 +1,12 @@
 -- No line has two forms.
-use Rattle.std.proofs.Common.{◌≡◌, ℕ, ◌+◌, ◌<◌, ◌≤◌, zero, suc, ◌⊎◌, inl, inr, Bool, true, false, ◌&&◌, ◌||◌, List, [], ◌∷◌, length, get_or, map, Contains, Option, Some, None, refl, ap, ◌∙◌, sym, subst, arith}
+use Rattle.std.proofs.Common.{◌≡◌, ℕ, ◌<◌, zero, suc, ◌⊎◌, inl, inr, Bool, true, false, ◌&&◌, ◌||◌, List, [], ◌∷◌, length, get_or, map, Contains, Option, Some, None, refl, ap, ◌∙◌, sym, subst, arith}
 use Rattle.std.specs.Prelude.{codes, not, nat_lt, ◌^◌}
 use Rattle.std.specs.Char.{is_ascii_digit}
 use Rattle.std.specs.List.{list_all}
 use Rattle.std.specs.Str.{all_ascii_digits}
 use Rattle.std.specs.Str.Parse.{digits_value}
 use Rattle.std.proofs.lemmas.Option.{cond_some, same_Some}
-use Rattle.std.proofs.lemmas.Bool.{and_parts, cases_lt}
+use Rattle.std.proofs.lemmas.Bool.{and_parts, cases_lt, ltb-true}
 use Rattle.std.proofs.lemmas.List.{get_or-map, get_or_default, length-map}
 use Rattle.std.proofs.lemmas.Slice.Eq.{bytes_eq-Decides}
 use Rattle.reg_base.specs.Texts.{same_bytes}
@@ -251,6 +251,19 @@ one-form f g ws x y h h' = on (listed f) (listed g)
         | inr over ↦ same-place f g one two (omega arith)
       ]
     ]
+
+-- each form has fewer than 16 words
+abbrev is_short : List Slot → Bool
+is_short row = nat_lt (length row) 16
+
+table-short : list_all is_short (map slots FORMS) ≡ true
+table-short = refl
+
+pub row-short : (form : Form) → length (slots form) < 16
+row-short form =
+    let one = listed form in
+    let far = all-at is_short (map slots FORMS) one.0 (slots form) table-short (subst (λ n. one.0 < n) (sym (length-map FORMS slots)) one.1) in
+    ltb-true (length (slots form)) 16 (subst (λ l. is_short l ≡ true) (row-at form one) far)
 
 -- ---- lines of rules
 

@@ -1,5 +1,5 @@
 -- Which band the channel of a number is in.
-use Rattle.std.proofs.Common.{ℕ, ◌<◌, ◌≤◌, ◌⊎◌, inl, inr, Option, Some, None, arith}
+use Rattle.std.proofs.Common.{ℕ, ◌<◌, ◌≤◌, inl, inr, Option, Some, None, arith}
 use Rattle.std.specs.Prelude.{MatchOption}
 use Rattle.freq_range.specs.Channels.{IsChannel, IsStepOfFour}
 use Rattle.freq_range.specs.declared.channel.Band.TheVariants.{Ghz2, Ghz5}

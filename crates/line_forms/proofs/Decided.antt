@@ -1,5 +1,5 @@
 -- The tests of the program beside what the definitions ask.
-use Rattle.std.proofs.Common.{◌≡◌, ℕ, true, false, Bool, refl, arith}
+use Rattle.std.proofs.Common.{◌≡◌, true, false, arith}
 use Rattle.std.proofs.lemmas.Bool.Decides.{nat_tests}
 use Rattle.rule_tables.specs.Code.{IsCode, is_code}
 use Rattle.rule_tables.specs.declared.code.Alpha2.{Alpha2}

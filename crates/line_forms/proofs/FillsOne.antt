@@ -1,12 +1,12 @@
 -- A word at a slot tells one thing.
-use Rattle.std.proofs.Common.{◌≡◌, ℕ, ◌+◌, ◌<◌, ◌*◌, ◌/◌, ◌≤◌, inl, inr, List, Bool, true, false, Option, Some, refl, ap, ◌∙◌, sym, subst, arith}
+use Rattle.std.proofs.Common.{◌≡◌, ℕ, ◌*◌, ◌/◌, inl, inr, List, Option, Some, ap, ◌∙◌, sym, subst, arith}
 use Rattle.std.proofs.lemmas.Option.{same_Some}
 use Rattle.chan_def.specs.Covered.{width_khz}
 use Rattle.chan_def.specs.declared.definition.ChanDef.{ChanDef}
 use Rattle.chan_flags.specs.Profiles.{Abilities}
 use Rattle.line_forms.specs.Slots.{ByChannel, ByProfile, Fills, FillsChannel, FillsProfile}
 use Rattle.line_forms.specs.Spelling.{IsChannelWord, HasChannelNumber, noht}
-use Rattle.line_forms.specs.Told.{Told, as_wide, round, tell_chan, tell_code, tell_kind, tell_moment, tell_power, tell_profile, tell_radio, twenty, with_bands, with_contexts, with_most_power, with_radar, with_width}
+use Rattle.line_forms.specs.Told.{Told, as_wide, round, tell_chan, tell_code, tell_kind, tell_moment, tell_power, tell_profile, tell_radio, with_bands, with_contexts, with_most_power, with_radar, with_width}
 use Rattle.line_forms.specs.declared.slot.Slot.{Slot}
 use Rattle.line_forms.specs.declared.slot.Slot.TheVariants.{Fixed, Moment, Radio, Bands as OfBands, Width as OfWidth, RadarWidth, MostPower, Contexts, Rules, Hex, Code, Mhz, ChannelNo, WordForm, Twenty, Wide, Centre, Name, OfKind, Power, Ssid, Interval, Dtim}
 use Rattle.line_forms.proofs.NamedChannels.{word_form-one}

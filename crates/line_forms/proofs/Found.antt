@@ -1,12 +1,12 @@
 -- The furthest stop over the first forms, and over one more.
-use Rattle.std.proofs.Common.{◌≡◌, ◌≢◌, ℕ, ◌+◌, ◌<◌, ◌≤◌, ◌⊎◌, inl, inr, List, length, get_or, All, Contains, Option, Some, None, refl, ap, ◌∙◌, sym, subst, arith, below_more}
+use Rattle.std.proofs.Common.{◌≡◌, ◌≢◌, ℕ, ◌+◌, ◌<◌, ◌≤◌, ◌⊎◌, inl, inr, List, length, get_or, Contains, Option, Some, None, refl, ◌∙◌, sym, subst, arith, below_more}
 use Rattle.std.proofs.lemmas.Bool.{cases_lt}
 use Rattle.std.proofs.lemmas.List.{get_or_read}
 use Rattle.line_forms.specs.Forms.{HasForm}
 use Rattle.line_forms.specs.Rows.{slots}
 use Rattle.line_forms.proofs.Walks.{stops-whole}
 use Rattle.line_forms.specs.Told.{Told, nothing}
-use Rattle.line_forms.specs.inner.Walking.{IsFurthest, IsFurthestOf, IsFurthestSoFar, IsLater, IsNoLater, StopsAlong, StopsAt, StopsBy, gravity}
+use Rattle.line_forms.specs.inner.Walking.{IsFurthest, IsFurthestOf, IsFurthestSoFar, IsLater, IsNoLater, StopsAlong, StopsBy, gravity}
 use Rattle.line_forms.specs.declared.form.Form.{Form}
 use Rattle.line_forms.specs.declared.walker.End.{End}
 use Rattle.line_forms.specs.declared.walker.End.TheVariants.{Whole}

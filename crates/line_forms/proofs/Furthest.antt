@@ -1,15 +1,12 @@
 -- The stop that is furthest on a line tells what is wrong with it.
-use Rattle.std.proofs.Common.{◌≡◌, ◌≢◌, ℕ, ◌+◌, ◌<◌, ◌≤◌, zero, suc, ◌⊎◌, inl, inr, Bool, true, false, List, [], ◌∷◌, length, get_or, take, drop, All, Contains, refl, ap, ◌∙◌, sym, subst, arith}
+use Rattle.std.proofs.Common.{◌≡◌, ℕ, ◌+◌, ◌<◌, ◌≤◌, zero, suc, ◌⊎◌, inl, inr, Bool, true, false, List, [], ◌∷◌, length, take, drop, All, Contains, refl, sym, subst, arith}
 use Rattle.std.proofs.lemmas.List.{take_all, length-take-le}
-use Rattle.std.proofs.lemmas.Bool.{cases_lt}
-use Rattle.line_forms.specs.Faults.{Begins, CanCome, IsBadAt, IsBadForm, IsFaultBy, IsFirstBad, IsNoNumber, IsUnknown, LooksRight, TakesForm, TakesNumber}
-use Rattle.line_forms.specs.Forms.{HasForm, Leads}
+use Rattle.line_forms.specs.Faults.{Begins, CanCome, IsFaultBy, IsFirstBad, LooksRight, TakesForm, TakesNumber}
+use Rattle.line_forms.specs.Forms.{Leads}
 use Rattle.line_forms.specs.Rows.{slots}
 use Rattle.line_forms.specs.Slots.{looks_like, sort_of}
 use Rattle.line_forms.specs.Told.{Told, nothing}
-use Rattle.line_forms.specs.inner.Walking.{IsFurthest, IsNoLater, StopsAlong, StopsAt, StopsBy, blame_by, blame_of, fault_of_end, gravity, gravity_of_blame}
-use Rattle.line_forms.specs.declared.fault.LineFault.{LineFault}
-use Rattle.line_forms.specs.declared.fault.LineFault.TheVariants.{Unknown, BadNumber, BadForm, Missing}
+use Rattle.line_forms.specs.inner.Walking.{IsFurthest, IsNoLater, StopsAlong, StopsBy, blame_by, blame_of, fault_of_end, gravity, gravity_of_blame}
 use Rattle.line_forms.specs.declared.form.Form.{Form}
 use Rattle.line_forms.specs.declared.slot.Slot.{Slot}
 use Rattle.line_forms.specs.declared.slot.Sort.{Sort}

@@ -1,8 +1,10 @@
 pub mod Apart
 pub mod AskedLines
 pub mod ChannelNumbers
+pub mod Cutting
 pub mod Decided
 pub mod FillsOne
+pub mod FormsOfWords
 pub mod Found
 pub mod Furthest
 pub mod Looks

@@ -1,6 +1,5 @@
 -- Words ask one request.
-use Rattle.std.proofs.Common.{◌≡◌, ℕ, ◌<◌, ◌⊎◌, inl, inr, List, [], ◌∷◌, length, drop, get_or, Some, refl, ap, ◌∙◌, sym, subst}
-use Rattle.std.specs.Prelude.{codes}
+use Rattle.std.proofs.Common.{◌≡◌, ℕ, inl, inr, List, [], ◌∷◌, drop, get_or, refl, ap, ◌∙◌, sym, subst}
 use Rattle.std.specs.List.{AllZip}
 use Rattle.std.proofs.lemmas.Option.{same_Some}
 use Rattle.freq_range.specs.declared.rule.Rule.{Rule}
@@ -8,11 +7,10 @@ use Rattle.text_lines.specs.LineFaults.{IsTextOfRule}
 use Rattle.text_lines.proofs.OneRule.{one_rule_only}
 use Rattle.reg_journal.specs.declared.request.Request.{Request}
 use Rattle.reg_journal.specs.declared.request.Request.TheVariants.{RadioRules}
-use Rattle.line_forms.specs.Forms.{AreRulesOfText, BeginsRules, FormOf, HasForm, Leads, RulesOf, Spells, request_of, rules_text}
+use Rattle.line_forms.specs.Forms.{AreRulesOfText, FormOf, HasForm, Leads, RulesOf, Spells, request_of, rules_text}
 use Rattle.line_forms.specs.Rows.{slots}
 use Rattle.line_forms.specs.Spelling.{radio_of_word}
 use Rattle.line_forms.specs.Told.{Told, nothing}
-use Rattle.line_forms.specs.declared.form.Form.{Form}
 use Rattle.line_forms.specs.declared.slot.Slot.{Slot}
 use Rattle.line_forms.proofs.Apart.{one-form, rules-apart}
 use Rattle.line_forms.proofs.FillsOne.{fills-one}

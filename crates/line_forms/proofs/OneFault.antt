@@ -1,9 +1,8 @@
 -- Words that have none of the forms have one fault.
-use Rattle.std.proofs.Common.{◌≡◌, ◌≢◌, ℕ, ◌+◌, ◌<◌, ◌≤◌, ◌⊎◌, inl, inr, Bool, true, false, List, [], ◌∷◌, length, get_or, take, drop, refl, ap, ◌∙◌, sym, subst, arith}
-use Rattle.std.proofs.lemmas.List.{take-take, length-take-le}
+use Rattle.std.proofs.Common.{◌≡◌, ℕ, ◌+◌, ◌<◌, inl, inr, true, List, length, take, drop, refl, ap, ◌∙◌, sym, subst, arith}
+use Rattle.std.proofs.lemmas.List.{take-take}
 use Rattle.std.proofs.lemmas.Bool.{cases_lt}
-use Rattle.line_forms.specs.Faults.{Begins, CanCome, IsBadAt, IsBadForm, IsFaultBy, IsFaultWhen, IsFirstBad, IsJudgedBy, IsNoNumber, IsUnknown, IsWordFault, LooksRight, StartsPlainly, TakesForm, TakesNumber}
-use Rattle.line_forms.specs.Forms.{Leads}
+use Rattle.line_forms.specs.Faults.{Begins, IsBadAt, IsBadForm, IsFaultBy, IsFaultWhen, IsFirstBad, IsJudgedBy, IsNoNumber, IsUnknown, IsWordFault, TakesNumber}
 use Rattle.line_forms.specs.Rows.{slots}
 use Rattle.line_forms.specs.Slots.{looks_like, sort_of}
 use Rattle.line_forms.specs.Told.{nothing}

@@ -1,5 +1,5 @@
 -- Lines that are the start of an access point with a frequency and no word of iw behind it.
-use Rattle.std.proofs.Common.{◌≡◌, ℕ, ◌<◌, ◌≤◌, Bool, true, false, List, [], length, take, drop, IsTrue, refl, ap, ◌∙◌, sym, subst, arith}
+use Rattle.std.proofs.Common.{◌≡◌, ℕ, ◌<◌, ◌≤◌, Bool, true, false, List, [], length, take, drop, IsTrue, refl, ◌∙◌, sym, arith}
 use Rattle.std.specs.Prelude.{not}
 use Rattle.std.proofs.lemmas.List.{length-take}
 use Rattle.line_forms.specs.Faults.{StartsPlainly, begins_iw_word}

@@ -1,7 +1,7 @@
 -- The rules that a text between `;` says.
 use Rattle.std.proofs.Common.{◌≡◌, ℕ, ◌+◌, ◌-◌, ◌<◌, ◌≤◌, zero, suc, List, [], ◌∷◌, ◌++◌, Bool, true, false, eqb, length, get_or, take, drop, Option, Some, None, MatchOption, refl, ap, ◌∙◌, sym, subst, arith, append_assoc}
-use Rattle.std.specs.List.{AllZip, slice_split, position_or_len}
-use Rattle.std.proofs.lemmas.List.{take_rest, length-append}
+use Rattle.std.specs.List.{AllZip, position_or_len}
+use Rattle.std.proofs.lemmas.List.{take_rest}
 use Rattle.std.proofs.lemmas.List.Elements.{All-from_get_or}
 use Rattle.std.proofs.lemmas.List.Splits.{slice_split_first, slice_split_none}
 use Rattle.std.proofs.lemmas.List.Sums.{position_or_len_is}

@@ -1,11 +1,11 @@
 -- What lines say, and that it is one thing.
-use Rattle.std.proofs.Common.{◌≡◌, ℕ, ◌<◌, ◌≤◌, ◌⊎◌, inl, inr, List, [], ◌∷◌, length, All, Option, Some, None, Result, Ok, Err, refl, ap, ◌∙◌, sym, subst, arith}
+use Rattle.std.proofs.Common.{◌≡◌, ℕ, ◌<◌, ◌≤◌, ◌⊎◌, inl, inr, List, length, All, Option, Some, None, Result, Ok, Err, refl, ap, ◌∙◌, sym, subst, arith}
 use Rattle.reg_base.specs.declared.limits.TheConstants.{MOST_LINE_BYTES}
 use Rattle.reg_journal.specs.declared.request.Request.{Request}
-use Rattle.line_forms.specs.Forms.{FormOf, HasForm, RulesOf, Spells}
+use Rattle.line_forms.specs.Forms.{FormOf, RulesOf, Spells}
 use Rattle.line_forms.specs.Faults.{IsFaultBy, IsFaultWhen}
 use Rattle.line_forms.specs.Lines.{AreSilent, Asks, AsksNothing, HasWordFault, IsLineByte, IsScriptFault, IsReadLineFault, IsScriptLine, Says}
-use Rattle.line_forms.specs.Told.{Told, nothing}
+use Rattle.line_forms.specs.Told.{nothing}
 use Rattle.line_forms.specs.Rows.{slots}
 use Rattle.line_forms.specs.Words.{words_of}
 use Rattle.line_forms.specs.inner.Walking.{HaveNoForm, IsFormFault, IsFurthest, StopsBy}
@@ -16,7 +16,6 @@ use Rattle.line_forms.specs.declared.judged.Judged.TheVariants.{ByAll, ByTwo, By
 use Rattle.line_forms.specs.declared.judged.TheConstants.{BY_TWO, BY_THREE, BY_FOUR}
 use Rattle.line_forms.specs.declared.fault.LineFault.{LineFault}
 use Rattle.line_forms.specs.declared.fault.LineFault.TheVariants.{TooLong, NotAscii, Unknown, BadNumber, BadForm, Missing}
-use Rattle.line_forms.specs.declared.form.Form.{Form}
 use Rattle.line_forms.specs.declared.table.TheConstants.{FORMS}
 use Rattle.line_forms.specs.declared.walker.Stop.{Stop}
 use Rattle.line_forms.proofs.Apart.{listed}

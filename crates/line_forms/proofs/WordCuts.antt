@@ -1,6 +1,6 @@
 -- Words, by the places at which they are cut.
-use Rattle.std.proofs.Common.{◌≡◌, ℕ, ◌+◌, ◌-◌, ◌<◌, ◌≤◌, List, [], ◌∷◌, Bool, true, false, eqb, length, get_or, take, drop, suc, zero, Option, Some, None, refl, ap, ◌∙◌, sym, arith, add-zero, inl, inr}
-use Rattle.std.specs.Prelude.{MatchOption, filter, not}
+use Rattle.std.proofs.Common.{◌≡◌, ℕ, ◌+◌, ◌-◌, ◌<◌, ◌≤◌, List, [], ◌∷◌, true, false, eqb, length, get_or, take, drop, suc, zero, Some, None, refl, ap, ◌∙◌, sym, arith, add-zero, inl, inr}
+use Rattle.std.specs.Prelude.{filter, not}
 use Rattle.std.specs.List.{slice_split, position_or_len}
 use Rattle.std.proofs.lemmas.Bool.{cases_lt, eqb-true}
 use Rattle.std.proofs.lemmas.Bool.Decides.{nat_tests}
@@ -8,7 +8,7 @@ use Rattle.std.proofs.lemmas.Grind.{common_steps}
 use Rattle.std.proofs.lemmas.List.{at_drop_more, get_or-drop, length-drop, take_all, take_rest, drop_all}
 use Rattle.std.proofs.lemmas.List.Elements.{All-from_get_or}
 use Rattle.std.proofs.lemmas.List.Sums.{position_or_len_is}
-use Rattle.std.proofs.lemmas.List.Splits.{slice_split_first, slice_split_none, length-slice_split}
+use Rattle.std.proofs.lemmas.List.Splits.{slice_split_first, slice_split_none}
 use Rattle.std.proofs.lemmas.Option.{some_pair_parts}
 use Rattle.line_forms.specs.inner.Cursor.{AreFirst, next_word}
 use Rattle.line_forms.specs.Words.{is_line_blank, is_empty, words_of}

@@ -1,13 +1,13 @@
 -- What is wrong with a line, by which words begin a line that has a form.
-use Rattle.std.specs.Prelude.{◌≡◌, ℕ, ◌+◌, ◌<◌, ◌≤◌, ◌⊎◌, Bool, true, false, not, cond, ◌||◌, zero, suc, List, [], ◌∷◌, length, take, drop, All, Contains, IsTrue, codes}
+use Rattle.std.specs.Prelude.{◌≡◌, ℕ, ◌+◌, ◌⊎◌, Bool, true, false, cond, ◌||◌, zero, suc, List, [], ◌∷◌, take, drop, Contains, codes}
 use Rattle.reg_base.specs.Texts.{same_bytes}
 use Rattle.line_forms.specs.Forms.{Leads}
 use Rattle.line_forms.specs.Rows.{slots}
 use Rattle.line_forms.specs.Slots.{looks_like, sort_of}
-use Rattle.line_forms.specs.Spelling.{is_iw_word, width_of_word}
+use Rattle.line_forms.specs.Spelling.{is_iw_word}
 use Rattle.line_forms.specs.Told.{Told, nothing}
 use Rattle.line_forms.specs.declared.fault.LineFault.{LineFault}
-use Rattle.line_forms.specs.declared.fault.LineFault.TheVariants.{TooLong, NotAscii, Unknown, BadNumber, BadForm, Missing}
+use Rattle.line_forms.specs.declared.fault.LineFault.TheVariants.{Unknown, BadNumber, BadForm, Missing}
 use Rattle.line_forms.specs.declared.form.Form.{Form}
 use Rattle.line_forms.specs.declared.judged.Judged.{Judged}
 use Rattle.line_forms.specs.declared.judged.Judged.TheVariants.{ByAll, ByTwo, ByThree, ByFour, TooEarly}

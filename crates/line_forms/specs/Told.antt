@@ -1,11 +1,11 @@
 -- What the words of a line have told so far.
-use Rattle.std.specs.Prelude.{ℕ, ◌*◌, Bool, true, false, List, [], ◌∷◌, codes}
+use Rattle.std.specs.Prelude.{ℕ, ◌*◌, Bool, true, false, List, [], codes}
 use Rattle.rule_tables.specs.declared.code.Alpha2.{Alpha2}
 use Rattle.chan_def.specs.declared.definition.ChanDef.{ChanDef}
 use Rattle.chan_def.specs.declared.kind.Kind.{Kind}
 use Rattle.chan_def.specs.declared.kind.Kind.TheVariants.{Ap}
 use Rattle.chan_def.specs.declared.width.Width.{Width}
-use Rattle.chan_def.specs.declared.width.Width.TheVariants.{Noht, W20}
+use Rattle.chan_def.specs.declared.width.Width.TheVariants.{W20}
 use Rattle.chan_flags.specs.Profiles.{Abilities, abilities}
 use Rattle.chan_flags.specs.declared.profile.Bands.{Bands}
 use Rattle.line_forms.specs.Spelling.{noht}

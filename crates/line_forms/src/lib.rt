@@ -2,11 +2,14 @@
 //! wrong with those that have none.
 #![tactic(auto)]
 
+mod cut;
 mod draft;
 mod fault;
+mod fitting;
 mod form;
 mod judged;
 mod laws;
+mod likely;
 mod pieces;
 mod profiles;
 mod reader;

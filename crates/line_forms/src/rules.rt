@@ -27,9 +27,12 @@ fn rules_radio(words: &mut Words<'_>) -> Option<RadioNo>
     ensures { MatchOption result ((radio : ℕ) (rest : List (List ℕ)) → BeginsRules words.old radio rest → ⊥) (λ radio. BeginsRules words.old radio words.new) }
 {
     let first = words.next_word()?;
+    if !is_word(first, b"radio") {
+        return None;
+    }
     let second = words.next_word()?;
     let third = words.next_word()?;
-    if !is_word(first, b"radio") || !is_word(second, b"rules") {
+    if !is_word(second, b"rules") {
         return None;
     }
     let radio = radio_of(third)?;

@@ -12,7 +12,9 @@ ghost use Rattle.line_forms.specs.Words.{words_of};
 ghost use Rattle.line_forms.specs.declared.form.Form.{Form};
 ghost use Rattle.line_forms.specs.inner.Walking.{HaveNoForm, IsFormFault, fault_of_end};
 
+use crate::cut::Cut;
 use crate::fault::{LineFault, ReadLineFault};
+use crate::fitting::form_of;
 use crate::form::Form;
 use crate::judged::{BY_FOUR, BY_THREE, BY_TWO, Judged, judge};
 use crate::reader::read;
@@ -20,7 +22,6 @@ use crate::request::asked;
 use crate::rules::rules_request;
 use crate::table::FORMS;
 use crate::walker::{Blame, End, Stop};
-use crate::words::Words;
 use reg_base::MOST_LINE_BYTES;
 use reg_journal::Request;
 use std::alloc::Global;
@@ -68,13 +69,13 @@ fn fault_of(line: &[u8]) -> LineFault
 }
 
 /// The request of a line of one of the forms, or what is wrong with it.
-fn read_form(alloc: Global, line: &[u8]) -> Result<Request, ReadLineFault>
-    ensures read { MatchResult result (FormOf (words_of line.now)) (IsFormFault (words_of line.now)) }
+fn read_form(alloc: Global, cut: &Cut<'_>) -> Result<Request, ReadLineFault>
+    ensures read { MatchResult result (FormOf cut.now) (IsFormFault cut.now) }
     ensures askable { IfOk result IsAskable }
 {
-    match read(&FORMS, line) {
-        Ok((form, draft)) => Ok(asked(alloc, form, &draft)?),
-        Err(_) => Err(ReadLineFault::Line(fault_of(line))),
+    match form_of(cut) {
+        Some((form, draft)) => Ok(asked(alloc, form, &draft)?),
+        None => Err(ReadLineFault::Line(fault_of(cut.line()))),
     }
 }
 
@@ -82,23 +83,27 @@ fn read_form(alloc: Global, line: &[u8]) -> Result<Request, ReadLineFault>
 fn are_line_bytes(line: &[u8]) -> bool
     ensures { IsTrue result ↔ All IsLineByte line.now }
 {
-    line.iter().all(|byte| is_line_byte(*byte))
+    let mut all = true;
+    for byte in line {
+        all &= is_line_byte(*byte);
+    }
+    all
 }
 
 /// Whether the byte is a visible one of ASCII, a space or a tab.
 fn is_line_byte(byte: u8) -> bool
     ensures { IsTrue result ↔ IsLineByte byte }
 {
-    0x20 <= byte && byte <= 0x7e || byte == b'\t'
+    (0x20 <= byte) & (byte <= 0x7e) | (byte == b'\t')
 }
 
 /// Whether the line has no word, or is a comment.
-fn is_silent(line: &[u8]) -> bool
-    ensures { IsTrue result ↔ AreSilent (words_of line.now) }
+fn is_silent(cut: &Cut<'_>) -> bool
+    ensures { IsTrue result ↔ AreSilent cut.now }
 {
-    match Words::new(line).next_word() {
-        Some(word) => begins_comment(word),
-        None => true,
+    match cut.words() {
+        [] => true,
+        [first, ..] => begins_comment(first),
     }
 }
 
@@ -126,13 +131,14 @@ pub fn read_line(alloc: Global, line: &[u8]) -> Result<Option<Request>, ReadLine
     if !are_line_bytes(line) {
         return Err(ReadLineFault::Line(LineFault::NotAscii));
     }
-    if is_silent(line) {
+    let cut = Cut::new(line);
+    if is_silent(&cut) {
         return Ok(None);
     }
     if let Some(request) = rules_request(alloc, line)? {
         return Ok(Some(request));
     }
-    match read_form(alloc, line) {
+    match read_form(alloc, &cut) {
         Ok(request) => Ok(Some(request)),
         Err(fault) => Err(fault),
     }

@@ -144,7 +144,7 @@ pub fn step<'a>(slot: Slot, draft: &Draft<'a>, word: &'a [u8]) -> Option<Draft<'
 }
 
 /// Whether the word is a number from 1 to 65,535.
-fn is_period(word: &[u8]) -> bool
+pub fn is_period(word: &[u8]) -> bool
     ensures { IsTrue result ↔ IsPeriod word.now }
 {
     match number_within(word, 1, 65_535) {

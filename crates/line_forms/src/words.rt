@@ -1,13 +1,13 @@
 //! Reads the words of a line from left to right.
 
-ghost use Rattle.std.specs.Prelude.{◌≡◌, ◌==◌, ⊤, MatchOption, drop, length};
+ghost use Rattle.std.specs.Prelude.{◌≡◌, ◌==◌, ◌<◌, ◌≤◌, ◌+◌, ◌-◌, ◌*◌, ◌^◌, ⊤, IfSome, MatchOption, drop, length, true};
+ghost use Rattle.std.specs.Char.{is_ascii_digit};
 ghost use Rattle.line_forms.specs.Words.{is_line_blank, words_of};
 ghost use Rattle.line_forms.specs.Spelling.{begins_number, number_of_word};
 ghost use Rattle.reg_base.specs.Texts.{same_bytes};
 ghost use Rattle.line_forms.specs.inner.Cursor.{AreFirst, next_word};
 
 use std::marker::Model;
-use std::str;
 
 /// The words of a line that are left.
 #[derive(Drop)]
@@ -51,7 +51,7 @@ fn leading(line: &[u8], blank: bool) -> usize
 }
 
 /// The first word, and what is behind it.
-fn cut_word(line: &[u8]) -> Option<(&[u8], &[u8])>
+pub fn cut_word(line: &[u8]) -> Option<(&[u8], &[u8])>
     ensures { MatchOption result (next_word (words_of line.now) ≡ None)
         (λ x. next_word (words_of line.now) ≡ Some (x.0.now, words_of x.1.now)) }
 {
@@ -74,6 +74,21 @@ pub fn begins_number(word: &[u8]) -> bool
     }
 }
 
+/// The value with one more digit behind it. `None` where the byte is no digit, or the value doesn't
+/// fit.
+fn with_digit(value: u64, digit: u8) -> Option<u64>
+    ensures next { MatchOption result (is_ascii_digit digit ≡ true → 2 ^ 64 ≤ value * 10 + (digit - 48))
+        (λ next. (is_ascii_digit digit ≡ true) × (next ≡ value * 10 + (digit - 48))) }
+    ensures fits { IfSome result (λ next. next < 2 ^ 64) }
+{
+    if !digit.is_ascii_digit() {
+        return None;
+    }
+    let tens = value.checked_mul(10)?;
+    let next = tens.checked_add(u64::from(digit - b'0'))?;
+    Some(next)
+}
+
 /// The number that the word spells in decimal, without sign or leading zeros.
 pub fn number_of(word: &[u8]) -> Option<u64>
     ensures { result ≡ number_of_word word.now }
@@ -81,10 +96,11 @@ pub fn number_of(word: &[u8]) -> Option<u64>
     if !begins_number(word) {
         return None;
     }
-    match str::from_utf8(word) {
-        Ok(text) => text.parse().ok(),
-        Err(_) => None,
+    let mut value = 0;
+    for digit in word {
+        value = with_digit(value, *digit)?;
     }
+    Some(value)
 }
 
 impl<'a> Words<'a> {

@@ -1,5 +1,5 @@
 -- How far the words of a line go along the slots of a form, and which form they go furthest with.
-use Rattle.std.specs.Prelude.{◌≡◌, ◌≢◌, ℕ, ◌+◌, ◌<◌, ◌≤◌, ◌⊎◌, Bool, cond, List, [], ◌∷◌, length, All, Contains, Option, Some, None, slice_index_or}
+use Rattle.std.specs.Prelude.{◌≡◌, ◌≢◌, ℕ, ◌+◌, ◌<◌, ◌≤◌, ◌⊎◌, Bool, cond, List, [], ◌∷◌, All, Contains, Option, Some, None, slice_index_or}
 use Rattle.reg_journal.specs.declared.request.Request.{Request}
 use Rattle.line_forms.specs.Faults.{IsWordFault}
 use Rattle.line_forms.specs.Forms.{FormOf, HasForm}

@@ -1,5 +1,3 @@
-use Rattle.std.proofs.Common.{◌≡◌, ℕ, ◌<◌, ◌≤◌, get_or, MatchOption, Contains}
-use Rattle.std.specs.Prelude.{IfSome}
 use Rattle.line_forms.specs.Words.{words_of}
 use Rattle.line_forms.specs.inner.Walking.{IsFurthestSoFar}
 use Rattle.line_forms.proofs.reader.read.Given as goal

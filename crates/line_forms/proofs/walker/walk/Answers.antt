@@ -1,4 +1,4 @@
-use Rattle.std.proofs.Common.{◌≡◌, ◌≤◌, ◌+◌, drop, length, rules, subst, sym, add-zero, ◌∙◌, arith}
+use Rattle.std.proofs.Common.{◌≡◌, ◌≤◌, ◌+◌, drop, length, rules, subst, sym, add-zero, arith}
 use Rattle.line_forms.specs.Told.{nothing}
 use Rattle.line_forms.specs.inner.Walking.{StopsAlong}
 use Rattle.line_forms.specs.declared.walker.End.TheVariants.{Bad, Short}
