@@ -96,6 +96,13 @@ decimal_most p n above high =
     let same : 13 + (n - 12) ≡ n + 1 = omega arith in
     rw (same, ten_more n) high
 
+pub is_decimal : (m n : ℕ) → 12 ≤ n → 10 ^ n ≤ power m 9 → power m 9 < 10 * 10 ^ n → IsNextDecimal m (n - 12) (power m 9 / 10 ^ (n - 12))
+is_decimal m n above low high = record {
+  least = decimal_least (power m 9) n above low;
+  most = decimal_most (power m 9) n above high;
+  left = refl;
+}
+
 -- factors of ten are taken out by one division by 10 ^ 12, where the others are multiplied in before
 pub factors_fit : (p d : ℕ) → p < 10 ^ 22 → d ≤ 9 → p * 10 ^ (12 - d) < 10 ^ 35
 factors_fit p d below few =

@@ -13,7 +13,8 @@ use rule_tables::Alpha2;
 use std::alloc::Global;
 use std::collections::BTreeMap;
 use text_lines::{
-    Item, LineStop, Opening, TextKind, entry_of, header_of, opening_of, rule_of, wmm_name_of,
+    Item, KnownPowers, LineStop, Opening, TextKind, entry_of, header_of, opening_of, rule_of,
+    wmm_name_of,
 };
 
 /// What the last header opened.
@@ -118,13 +119,13 @@ impl Parser {
     }
 
     /// Takes a rule.
-    fn take_rule(&mut self, line: &[u8]) -> Result<(), LineStop>
+    fn take_rule(&mut self, line: &[u8], known: &mut KnownPowers) -> Result<(), LineStop>
         ensures { (above : List Form) → AreSound above → ParserStands above self.old → Opens line.now OfRule
             → MatchResult result (λ _. TakesBare above line.now self.new) (IsBareStop above line.now) }
     {
         match self.open {
             Open::Nothing | Open::Wmm => Err(LineStop::Kind(TextKind::NoBlock)),
-            Open::Countries => match rule_of(line) {
+            Open::Countries => match rule_of(line, known) {
                 Err(kind) => Err(LineStop::Kind(kind)),
                 Ok((rule, name)) => {
                     let wmm = named(&self.blocks, name)?;
@@ -136,8 +137,15 @@ impl Parser {
         }
     }
 
-    /// Takes what counts of the line of that number, counted from 1.
-    pub fn take(&mut self, alloc: Global, line: &[u8], number: u64) -> Result<(), LineStop>
+    /// Takes what counts of the line of that number, counted from 1. Powers that were read before are
+    /// known.
+    pub fn take(
+        &mut self,
+        alloc: Global,
+        line: &[u8],
+        number: u64,
+        known: &mut KnownPowers,
+    ) -> Result<(), LineStop>
         ensures { (above : List Form) → number ≡ length above + 1 → AreSound above → ParserStands above self.old
             → MatchResult result (λ _. TakesBare above line.now self.new) (IsBareStop above line.now) }
     {
@@ -149,7 +157,7 @@ impl Parser {
             Some(Opening::Country) => self.take_header(alloc, line, number),
             Some(Opening::Wmm) => self.take_wmm_header(alloc, line, number),
             Some(Opening::Item(item)) => self.take_item(line, item),
-            Some(Opening::Rule) => self.take_rule(line),
+            Some(Opening::Rule) => self.take_rule(line, known),
         }
     }
 }

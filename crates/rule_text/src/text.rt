@@ -12,15 +12,17 @@ use crate::map_values::values_of;
 use crate::parser::Parser;
 use rule_tables::Db;
 use std::alloc::Global;
-use text_lines::{LineStop, cut_line, readable, squeeze};
+use text_lines::{KnownPowers, LineStop, cut_line, readable, squeeze};
 
-/// Takes the line of that number, counted from 1. The buffer is for what counts of the line.
+/// Takes the line of that number, counted from 1. The buffer is for what counts of the
+/// line, and powers that were read before are known.
 fn take_line(
     alloc: Global,
     parser: &mut Parser,
     buffer: &mut Vec<u8>,
     line: &[u8],
     number: u64,
+    known: &mut KnownPowers,
 ) -> Result<(), LineStop>
     ensures { (above : List Form) → number ≡ length above + 1 → AreSound above → ParserStands above parser.old
         → MatchResult result (λ _. TakesLine above line.now parser.new) (IsLineStop above line.now) }
@@ -28,7 +30,7 @@ fn take_line(
     match readable(line) {
         Ok(()) => {
             squeeze(line, buffer)?;
-            parser.take(alloc, buffer.as_slice(), number)?;
+            parser.take(alloc, buffer.as_slice(), number, known)?;
             Ok(())
         }
         Err(kind) => Err(LineStop::Kind(kind)),
@@ -51,12 +53,13 @@ fn read_lines(alloc: Global, text: &[u8]) -> Result<Parser, ParseFault>
 {
     let mut parser = Parser::new(alloc);
     let mut buffer = Vec::new(alloc);
+    let mut known = KnownPowers::new();
     let mut number = 0u64;
     let mut left = Some(text);
     while let Some(bytes) = left {
         let (line, rest) = cut_line(bytes);
         number += 1;
-        if let Err(stop) = take_line(alloc, &mut parser, &mut buffer, line, number) {
+        if let Err(stop) = take_line(alloc, &mut parser, &mut buffer, line, number, &mut known) {
             return Err(fault_at(stop, number));
         }
         left = rest;

@@ -1,5 +1,5 @@
 -- Each number of milliwatts within the range has a value in mBm.
-use Rattle.std.proofs.Common.{◌≡◌, ℕ, zero, suc, ◌+◌, ◌-◌, ◌*◌, ◌/◌, ◌^◌, ◌<◌, ◌≤◌, ◌⊎◌, inl, inr, arith, refl, ap, ◌∙◌}
+use Rattle.std.proofs.Common.{◌≡◌, ℕ, zero, suc, ◌+◌, ◌-◌, ◌*◌, ◌/◌, ◌^◌, ◌<◌, ◌≤◌, ◌⊎◌, inl, inr, arith, refl, ap, subst, ◌∙◌}
 use Rattle.std.proofs.lemmas.Bool.{cases_lt}
 use Rattle.freq_range.specs.Power.{IsNextDecimal, IsMbm, IsMilliwatts, power}
 use Rattle.freq_range.proofs.Powers.{digits_least, is_decimal, left_least, left_most, mantissa_least, mantissa_most, power-more, power-none, product_least, product_most, ten_more}
@@ -66,3 +66,9 @@ mbm_of_milliwatts mw h =
         sum = refl;
       },
     )
+
+-- what each value of the milliwatts is, where it is one number, is their value
+pub known_power : (mw kept mbm : ℕ) → kept ≡ mw → IsMilliwatts mw → ((other : ℕ) → IsMbm kept other → other ≡ mbm) → IsMbm mw mbm
+known_power mw kept mbm same h only =
+    let one = mbm_of_milliwatts mw h in
+    subst (IsMbm mw) (only one.0 (rw same one.1)) one.1

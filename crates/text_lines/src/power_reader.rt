@@ -4,9 +4,9 @@ ghost use Rattle.std.specs.Prelude.{◌≡◌, IfSome, MatchOption};
 ghost use Rattle.text_lines.specs.declared.power_reader.Amount.{Amount};
 ghost use Rattle.text_lines.specs.inner.Reading.{IsAmount, MeansMbm, amount_at, behind_gain, power_at};
 
+use crate::known_powers::KnownPowers;
 use crate::numbers::{decimal_from, value_within};
 use crate::scanner::{after_byte, after_word, number_at};
-use freq_range::mw_to_mbm;
 
 /// The most milliwatts that a text may name.
 const MOST_MW: u32 = 1_000_000;
@@ -61,27 +61,24 @@ fn amount_at(bytes: &[u8]) -> Option<(Amount, &[u8])>
 }
 
 /// The amount in mBm.
-fn mbm_of(amount: Amount) -> u16
+fn mbm_of(amount: Amount, known: &mut KnownPowers) -> u16
     requires { IsAmount amount }
     ensures { MeansMbm amount result }
 {
     match amount {
         Amount::Mbm(value) => value,
-        Amount::Milliwatts(mw) => match mw_to_mbm(mw) {
-            Some(value) => value,
-            None => unreachable!(),
-        },
+        Amount::Milliwatts(mw) => known.mbm(mw),
     }
 }
 
 /// The power that stands first, `,(POWER)`, in mBm, and what is behind it.
 #[tactic(auto, unfolding(crate::specs::inner::Reading::power_at))]
-pub fn power_at(bytes: &[u8]) -> Option<(u16, &[u8])>
+pub fn power_at<'a>(bytes: &'a [u8], known: &mut KnownPowers) -> Option<(u16, &'a [u8])>
     ensures { MatchOption result (power_at bytes.now ≡ None)
         (λ x. (amount : Amount) × (power_at bytes.now ≡ Some (amount, x.1.now)) × MeansMbm amount x.0) }
 {
     let rest = after_word(bytes, b",(")?;
     let (amount, rest) = amount_at(behind_gain(rest))?;
     let rest = after_byte(rest, b')')?;
-    Some((mbm_of(amount), rest))
+    Some((mbm_of(amount, known), rest))
 }

@@ -6,6 +6,7 @@ ghost use Rattle.text_lines.specs.LineFaults.{IsParseRuleFault, IsTextOfRule};
 ghost use Rattle.text_lines.specs.inner.Reading.{IsBareKind, IsBareRule};
 
 use crate::fault::{RuleTextFault, TextKind};
+use crate::known_powers::KnownPowers;
 use crate::lines::{readable, squeeze};
 use crate::rule_reader::spelled_rule_of;
 use crate::scanner::begins_with;
@@ -19,7 +20,8 @@ fn bare_rule_of(line: &[u8]) -> Result<Rule, TextKind>
     if !begins_with(line, b"(") {
         return Err(TextKind::BadLine);
     }
-    let spelled = spelled_rule_of(line)?;
+    let mut known = KnownPowers::new();
+    let spelled = spelled_rule_of(line, &mut known)?;
     if spelled.name.is_some() {
         return Err(TextKind::BadFlag);
     }

@@ -7,6 +7,7 @@ ghost use Rattle.text_lines.specs.Spelling.{IsRuleLine};
 
 use crate::band_reader::{Band, band_at};
 use crate::fault::TextKind;
+use crate::known_powers::KnownPowers;
 use crate::power_reader::power_at;
 use crate::rule_words::words_at;
 use freq_range::{Rule, RuleFlags};
@@ -37,13 +38,16 @@ fn rule_from(band: Band, eirp_mbm: u16, flags: RuleFlags) -> Rule
 }
 
 /// What the line says, whether or not its flags are kept, or its first part that isn't of its form.
-pub fn spelled_rule_of(line: &[u8]) -> Result<SpelledRule<'_>, TextKind>
+pub fn spelled_rule_of<'a>(
+    line: &'a [u8],
+    known: &mut KnownPowers,
+) -> Result<SpelledRule<'a>, TextKind>
     ensures { MatchResult result (λ x. IsSpelledAs line.now x.rule (option_map (λ name. name.now) x.name) x.is_kept) (IsPartKind line.now) }
 {
     let Some((band, rest)) = band_at(line) else {
         return Err(TextKind::BadBand);
     };
-    let Some((power, rest)) = power_at(rest) else {
+    let Some((power, rest)) = power_at(rest, known) else {
         return Err(TextKind::BadPower);
     };
     let Some(words) = words_at(rest) else {
@@ -58,10 +62,13 @@ pub fn spelled_rule_of(line: &[u8]) -> Result<SpelledRule<'_>, TextKind>
 }
 
 /// The rule and the name of its WMM rule, if it has one, or what is wrong with the line.
-pub fn rule_of(line: &[u8]) -> Result<(Rule, Option<&[u8]>), TextKind>
+pub fn rule_of<'a>(
+    line: &'a [u8],
+    known: &mut KnownPowers,
+) -> Result<(Rule, Option<&'a [u8]>), TextKind>
     ensures rule { MatchResult result (λ x. IsRuleLine line.now x.0 (option_map (λ name. name.now) x.1)) (IsRuleKind line.now) }
 {
-    let spelled = spelled_rule_of(line)?;
+    let spelled = spelled_rule_of(line, known)?;
     if !spelled.is_kept {
         return Err(TextKind::FlagNotInVersion);
     }
