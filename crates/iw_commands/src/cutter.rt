@@ -1,9 +1,10 @@
 //! Cuts a script that comes in pieces into its lines.
 
-ghost use Rattle.std.specs.Prelude.{◌≡◌, ◌==◌, ◌≤◌, [], IfOk, false, length};
+ghost use Rattle.std.specs.Prelude.{◌≡◌, ◌≢◌, ◌==◌, ◌+◌, ◌<◌, ◌≤◌, ◌⊎◌, ℕ, [], ◌++◌, IfOk, false, length, slice_index, take};
 ghost use Rattle.reg_base.specs.declared.limits.TheConstants.{MOST_LINE_BYTES};
 ghost use Rattle.iw_commands.specs.Cutting.{IsCut, opened, with_byte};
 
+use memchr::memchr;
 use reg_base::MOST_LINE_BYTES;
 use reg_lists::OutOfMemory;
 use std::alloc::Global;
@@ -37,6 +38,18 @@ impl Model for LineCutter {
     ghost invariant = { λ c. (vec_len c.bytes ≤ 4096) × (4096 ≤ vec_capacity c.bytes) };
 }
 
+/// How many bytes stand before the first newline, or all where there is none.
+fn before_newline(bytes: &[u8]) -> usize
+    ensures within { result ≤ length bytes.now }
+    ensures before { (k : ℕ) → k < result → slice_index bytes.now k ≢ 10 }
+    ensures ends { result < length bytes.now → slice_index bytes.now result ≡ 10 }
+{
+    match memchr(b'\n', bytes) {
+        Some(place) => place,
+        None => bytes.len(),
+    }
+}
+
 impl LineCutter {
     /// An empty line, and room for the longest one.
     pub fn new(alloc: Global) -> Result<LineCutter, OutOfMemory>
@@ -64,6 +77,23 @@ impl LineCutter {
             self.too_long = true;
         }
         false
+    }
+
+    /// Keeps the first of these bytes, as many as stand before a newline and as there is room for, and
+    /// tells how many they are.
+    pub fn append(&mut self, bytes: &[u8]) -> usize
+        ensures within { result ≤ length bytes.now }
+        ensures room { length self.old.bytes + result ≤ MOST_LINE_BYTES }
+        ensures before { (k : ℕ) → k < result → slice_index bytes.now k ≢ 10 }
+        ensures ends { result < length bytes.now → (slice_index bytes.now result ≡ 10) ⊎ (length self.old.bytes + result ≡ MOST_LINE_BYTES) }
+        ensures kept { self.new ≡ record { bytes = self.old.bytes ++ take result bytes.now; too_long = self.old.too_long; ended = self.old.ended } }
+    {
+        let room = MOST_LINE_BYTES - self.bytes.len();
+        let count = before_newline(&bytes[..room.min(bytes.len())]);
+        if self.bytes.extend_from_slice(&bytes[..count]).is_err() {
+            unreachable!();
+        }
+        count
     }
 
     /// The line so far: `TooLong` exactly where it was marked so.

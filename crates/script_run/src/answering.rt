@@ -1,6 +1,6 @@
 //! Answers a script line by line, as its newlines come.
 
-ghost use Rattle.std.specs.Prelude.{◌≡◌, [], ◌∷◌, ◌++◌, ◌⊎◌, ◌≤◌, ℕ, List, Option, IfErr, OnErr, OnOk, false};
+ghost use Rattle.std.specs.Prelude.{◌≡◌, [], ◌∷◌, ◌++◌, ◌⊎◌, ◌<◌, ◌≤◌, ℕ, List, Option, IfErr, IfOk, OnErr, OnOk, false, length, take};
 ghost use Rattle.rule_tables.specs.declared.domain.Domain.{Domain};
 ghost use Rattle.radio_drv.specs.Seen.{Seen};
 ghost use Rattle.reg_base.specs.Appended.{AppendsAtMost};
@@ -49,10 +49,45 @@ pub fn answer_bytes<K: Sink, D: DriverRow>(
     ensures ready { IsReady core.new (D.seen drivers.new) }
     ensures unended { cutter.new.ended ≡ false }
 {
-    for byte in bytes {
-        answer_byte(core, *byte, cutter, text, out, drivers)?;
+    let mut place = 0;
+    'pieces: while place < bytes.len() {
+        place += answer_piece(core, &bytes[place..], cutter, text, out, drivers)?;
     }
     Ok(())
+}
+
+/// Takes the first of the bytes into the cutter, and tells how many: those up to a newline, or a
+/// newline, and then it answers the line that ends.
+fn answer_piece<K: Sink, D: DriverRow>(
+    core: &mut Core,
+    piece: &[u8],
+    cutter: &mut LineCutter,
+    text: &mut Bytes,
+    out: &mut K,
+    drivers: &mut D,
+) -> Result<usize, Halt>
+    requires some { 0 < length piece.now }
+    requires ready { IsReady core.old (D.seen drivers.old) }
+    requires unended { cutter.old.ended ≡ false }
+    ensures some { IfOk result (λ n. 0 < n) }
+    ensures within { IfOk result (λ n. n ≤ length piece.now) }
+    ensures answered { IfOk result (λ n. (db : List Domain) (taken : List ℕ) (before : Option (List ℕ)) (heard : List (Option Seen))
+        → IsReadSoFar db taken cutter.old before (K.held out.old) core.old heard (D.seen drivers.old)
+        → IsReadSoFar db (taken ++ take n piece.now) cutter.new before (K.held out.new) core.new heard (D.seen drivers.new)) }
+    ensures halted { IfErr result (λ halt. (db : List Domain) (taken : List ℕ) (before : Option (List ℕ)) (heard : List (Option Seen)) (n m : ℕ)
+        → IsReadSoFar db taken cutter.old before (K.held out.old) core.old heard (D.seen drivers.old)
+        → HaltsAmong db (taken ++ piece.now) (around before (K.held out.new) n m) (driven heard (D.seen drivers.new)) halt) }
+    ensures cause { IfErr result (HasHaltCause (K.count out.old) (K.count out.new)) }
+    ensures later { K.count out.old ≤ K.count out.new }
+    ensures ready { IsReady core.new (D.seen drivers.new) }
+    ensures unended { cutter.new.ended ≡ false }
+{
+    let count = cutter.append(piece);
+    if count > 0 {
+        return Ok(count);
+    }
+    answer_byte(core, piece[0], cutter, text, out, drivers)?;
+    Ok(1)
 }
 
 /// Takes the byte into the cutter, and answers the line that a newline ends.
