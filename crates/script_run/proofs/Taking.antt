@@ -1,5 +1,8 @@
 -- Bytes that are taken into the cutter: each line is answered as its newline comes, and the last one at the end.
-use Rattle.std.proofs.Common.{◌≡◌, ℕ, ◌+◌, ◌<◌, ◌==◌, Bool, true, false, List, [], ◌∷◌, ◌++◌, take, drop, get_or, add-one, drop-cons, take-append-drop, append_assoc, length, Option, Result, Ok, Err, OnOk, IfErr, IsTrue, sym, ap, subst, ◌∙◌}
+use Rattle.std.proofs.Common.{◌≡◌, ◌≢◌, ℕ, ◌+◌, ◌-◌, ◌<◌, ◌≤◌, ◌==◌, suc, arith, refl, append-nil, Bool, true, false, List, [], ◌∷◌, ◌++◌, take, drop, get_or, take-append-drop, append_assoc, length, Option, Result, Ok, Err, OnOk, IfErr, IsTrue, sym, ap, subst, ◌∙◌}
+use Rattle.std.proofs.Math.Seq.{take-add}
+use Rattle.std.proofs.lemmas.Bool.Decides.{nat_tests}
+use Rattle.std.proofs.lemmas.List.{get_or-take, length-append, length-drop, length-take-le, take_all, take_rest}
 use Rattle.std.specs.Result.{IsErrAnd}
 use Rattle.rule_tables.specs.declared.domain.Domain.{Domain}
 use Rattle.radio_drv.specs.Seen.{Seen}
@@ -10,7 +13,7 @@ use Rattle.iw_commands.specs.declared.cutter.Cut.{Cut}
 use Rattle.db_commands.specs.Devices.{DriversAround, StreamAround}
 use Rattle.script_run.specs.Output.{LineGives}
 use Rattle.core_runs.specs.Answered.{IsAnswered}
-use Rattle.script_run.specs.inner.Turns.{HaltsAmong, IsCutOf, IsHalt, IsHeld, IsReadSoFar}
+use Rattle.script_run.specs.inner.Turns.{HaltsAmong, IsCutAt, IsCutOf, IsHalt, IsHeld, IsReadSoFar}
 use Rattle.core_runs.specs.Turns.{IsRunSoFar}
 use Rattle.script_run.specs.declared.answering.Halt.{Halt}
 use Rattle.script_run.proofs.Cutting.{cut_ended, cut_held, cut_line, cut_more, ended_here, held_more, held_none, lines_at_end, lines_at_newline}
@@ -74,19 +77,77 @@ halts_line db bytes b more cutter marked cut mid output drivers halt core first 
 
 -- ---- the bytes of a piece
 
-pub bytes_more : (taken piece : List ℕ) (i b : ℕ) → take (i + 1) piece ≡ take i piece ++ b ∷ [] → (taken ++ take i piece) ++ b ∷ [] ≡ taken ++ take (i + 1) piece
-bytes_more taken piece i b more = append_assoc taken (take i piece) (b ∷ []) ∙ ap (λ xs. taken ++ xs) (sym more)
+-- ---- bytes before a newline
 
-pub bytes_whole : (taken piece : List ℕ) (i b : ℕ) → i < length piece → b ≡ get_or piece i 0 → (taken ++ take i piece) ++ b ∷ drop (i + 1) piece ≡ taken ++ piece
-bytes_whole taken piece i b within is =
-    append_assoc taken (take i piece) (b ∷ drop (i + 1) piece)
-    ∙ ap (λ xs. taken ++ xs) (ap (λ x. take i piece ++ x ∷ drop (i + 1) piece) is ∙ ap (λ n. take i piece ++ get_or piece i 0 ∷ drop n piece) (add-one i)
-    ∙ ap (λ xs. take i piece ++ xs) (sym (drop-cons piece i 0 within)) ∙ take-append-drop i piece)
+isnt_newline : (b : ℕ) → b ≢ 10 → (b == 10) ≡ false
+isnt_newline b h = grind (arith, nat_tests)
 
--- the answering stopped at a byte of the piece
-pub halts_whole : (db : List Domain) (taken piece : List ℕ) (i b : ℕ) (output : StreamAround) (drivers : DriversAround) (halt : Halt) → i < length piece → b ≡ get_or piece i 0
-    → HaltsAmong db ((taken ++ take i piece) ++ b ∷ drop (i + 1) piece) output drivers halt → HaltsAmong db (taken ++ piece) output drivers halt
-halts_whole db taken piece i b output drivers halt within is = subst (λ bytes. HaltsAmong db bytes output drivers halt) (bytes_whole taken piece i b within is)
+cuts_more : (bs bytes : List ℕ) (lines : List (List ℕ)) (begun : List ℕ) → ((k : ℕ) → k < length bs → get_or bs k 0 ≢ 10) → IsCutAt bytes lines begun → IsCutAt (bytes ++ bs) lines (begun ++ bs)
+cuts_more [] bytes lines begun plain cut = subst (λ l. IsCutAt l lines (begun ++ [])) (sym (append-nil bytes)) (subst (λ l. IsCutAt bytes lines l) (sym (append-nil begun)) cut)
+cuts_more (b ∷ bs) bytes lines begun plain cut =
+    let more = cuts_more bs (bytes ++ b ∷ []) lines (begun ++ b ∷ []) (λ k lt. plain (suc k) (omega arith)) (cut_more bytes lines begun b (isnt_newline b (plain 0 (omega arith))) cut) in
+    subst (λ l. IsCutAt l lines (begun ++ (b ∷ bs))) (append_assoc bytes (b ∷ []) bs) (subst (λ l. IsCutAt ((bytes ++ b ∷ []) ++ bs) lines l) (append_assoc begun (b ∷ []) bs) more)
+
+-- the line with these bytes kept
+abbrev keeping : OpenLine → List ℕ → OpenLine
+keeping cutter bytes = record { bytes = bytes; too_long = cutter.too_long; ended = cutter.ended }
+
+-- the first of the bytes are kept, none of them a newline
+pub takes_front : (db : List Domain) (taken piece : List ℕ) (n : ℕ) (cutter kept : OpenLine) (before after : Option (List ℕ)) (core : Core) (heard heard' : List (Option Seen)) → n ≤ length piece
+    → ((k : ℕ) → k < n → get_or piece k 0 ≢ 10) → kept ≡ record { bytes = cutter.bytes ++ take n piece; too_long = cutter.too_long; ended = cutter.ended }
+    → IsReadSoFar db taken cutter before after core heard heard' → IsReadSoFar db (taken ++ take n piece) kept before after core heard heard'
+takes_front db taken piece n cutter kept before after core heard heard' le plain is so = record {
+  lines = so.lines;
+  begun = so.begun ++ take n piece;
+  cut = cuts_more (take n piece) taken so.lines so.begun front so.cut;
+  holds = subst (IsHeld (so.begun ++ take n piece)) (sym is) held;
+  so_far = so.so_far;
+}
+  where
+    front : (k : ℕ) → k < length (take n piece) → get_or (take n piece) k 0 ≢ 10
+    front k lt =
+        let below : k < n = omega (arith, lt, length-take-le n piece le) in
+        subst (λ x. x ≢ 10) (sym (get_or-take n piece k 0 below)) (plain k below)
+
+    held : IsHeld (so.begun ++ take n piece) (keeping cutter (cutter.bytes ++ take n piece))
+    held = record {
+      unended = so.holds.unended;
+      whole = λ short. ap (λ l. l ++ take n piece) (so.holds.whole short);
+      long = λ long. let fewer = so.holds.long long in omega (arith, fewer, length-append so.begun (take n piece));
+    }
+
+-- where none is kept, the line stays
+pub none_kept : (cutter kept : OpenLine) (piece : List ℕ) (n : ℕ) → n ≡ 0 → kept ≡ record { bytes = cutter.bytes ++ take n piece; too_long = cutter.too_long; ended = cutter.ended } → kept ≡ cutter
+none_kept cutter kept piece n none is = is ∙ ap (λ m. keeping cutter (cutter.bytes ++ take m piece)) none ∙ ap (keeping cutter) (append-nil cutter.bytes)
+
+pub first_taken : (taken piece : List ℕ) → 0 < length piece → taken ++ get_or piece 0 0 ∷ [] ≡ taken ++ take 1 piece
+first_taken taken [] some = absurd (omega arith)
+first_taken taken (b ∷ bs) some = refl
+
+pub halts_first : (db : List Domain) (taken piece : List ℕ) (output : StreamAround) (drivers : DriversAround) (halt : Halt) → 0 < length piece
+    → HaltsAmong db (taken ++ get_or piece 0 0 ∷ drop 1 piece) output drivers halt → HaltsAmong db (taken ++ piece) output drivers halt
+halts_first db taken [] output drivers halt some h = absurd (omega arith)
+halts_first db taken (b ∷ bs) output drivers halt some h = h
+
+-- ---- piece by piece
+
+pub on_within : (bytes : List ℕ) (i n : ℕ) → i ≤ length bytes → n ≤ length (take (length bytes - i) (drop i bytes)) → i + n ≤ length bytes
+on_within bytes i n le few =
+    let size = ap length (take_rest bytes i) ∙ length-drop i bytes in
+    omega (arith, le, few, size)
+
+pub bytes_on : (taken bytes : List ℕ) (i n : ℕ) → (taken ++ take i bytes) ++ take n (take (length bytes - i) (drop i bytes)) ≡ taken ++ take (i + n) bytes
+bytes_on taken bytes i n =
+    append_assoc taken (take i bytes) (take n (take (length bytes - i) (drop i bytes)))
+    ∙ ap (λ l. taken ++ l) (ap (λ l. take i bytes ++ take n l) (take_rest bytes i) ∙ sym (take-add i n bytes))
+
+pub bytes_rest : (taken bytes : List ℕ) (i : ℕ) → (taken ++ take i bytes) ++ take (length bytes - i) (drop i bytes) ≡ taken ++ bytes
+bytes_rest taken bytes i =
+    append_assoc taken (take i bytes) (take (length bytes - i) (drop i bytes))
+    ∙ ap (λ l. taken ++ l) (ap (λ l. take i bytes ++ l) (take_rest bytes i) ∙ take-append-drop i bytes)
+
+pub bytes_all : (taken bytes : List ℕ) (i : ℕ) → length bytes ≤ i → taken ++ take i bytes ≡ taken ++ bytes
+bytes_all taken bytes i past = ap (λ l. taken ++ l) (take_all i bytes past)
 
 -- ---- the end
 
