@@ -26,6 +26,7 @@ pub mod FirstDomains
 pub mod ShownSections
 pub mod Flagged
 pub mod KeptPlaces
+pub mod LeftAlone
 pub mod BookNotes
 pub mod Permitted
 pub mod EffectLists

@@ -10,6 +10,7 @@ ghost use Rattle.core_parts.specs.Kept.{KeepsRadios, KeepsPlace};
 ghost use Rattle.core_parts.specs.declared.radio.RadioPlace.TheVariants.{Free};
 
 use crate::domains::Domains;
+use crate::leaving::leaves_list;
 use crate::radio::RadioPlace;
 use crate::regions::{checks_last, is_moved, region_of};
 use crate::tables::radio_table;
@@ -91,6 +92,9 @@ fn is_place_moved(
     };
     let self_managed = radio.chans.profile().self_managed();
     let driver = driver_after(hint, number, radio.driver);
+    if leaves_list(before, after, radio.driver, driver) {
+        return false;
+    }
     let was = region_of(domains, before, self_managed, radio.driver);
     let is = region_of(domains, after, self_managed, driver);
     is_moved(was, is)
@@ -134,8 +138,11 @@ fn retune_place(
     let Some(table) = table else {
         return;
     };
-    let self_managed = radio.chans.profile().self_managed();
     let driver = driver_after(hint, number, radio.driver);
+    if leaves_list(before, after, radio.driver, driver) {
+        return;
+    }
+    let self_managed = radio.chans.profile().self_managed();
     let was = region_of(domains, before, self_managed, radio.driver);
     let is = region_of(domains, after, self_managed, driver);
     radio.retune(driver, table, is_moved(was, is), checks_last(is));

@@ -10,6 +10,7 @@ mod domains;
 mod hinting;
 mod interface;
 mod interface_map;
+mod leaving;
 mod lookup;
 mod permitting;
 mod radar;

@@ -1,4 +1,4 @@
-use Rattle.std.proofs.Common.{◌≡◌, ◌∷◌, not, sym, ap, ◌∙◌}
+use Rattle.std.proofs.Common.{◌≡◌, ◌∷◌, not, refl, sym, ap, ◌∙◌}
 use Rattle.chan_flags.specs.Profiles.{Abilities}
 use Rattle.reg_hints.specs.Table.{Treated}
 use Rattle.rule_tables.specs.Regions.{is_same_region}
@@ -7,6 +7,7 @@ use Rattle.reg_journal.specs.Applicable.{region_of}
 use Rattle.reg_journal.specs.Facts.{hinted}
 use Rattle.reg_books.specs.Lists.{region_by}
 use Rattle.core_parts.proofs.KeptOn.{driver-after, region-after, region-before, table-after}
+use Rattle.core_parts.proofs.LeftAlone.{left_alone}
 use Rattle.core_parts.proofs.hinting.retune_place.Goals as goal
 
 pub returns : goal.returns
@@ -30,4 +31,15 @@ returns c = record {
       let moved = c.is_moved.ensures ∙ ap (λ x. not (is_same_region x c.region_of-was.result)) is
       ∙ ap (λ x. not (is_same_region (region_of db (hinted (Treated hint) ∷ J) r) x)) was in
       (there.0, c.retune.ensures.kept db J r (Treated hint) kept driver table moved (c.checks_last.ensures ∙ ap (λ x. is_same_region x Etsi) is));
+}
+
+pub returns-then-leaves_list : goal.returns-then-leaves_list
+returns-then-leaves_list c = record {
+  kept = λ J keeps led_before led_after.
+      let there = rw c.in-There.is at keeps in
+      let same = c.if-leaves_list.ensures.0 refl in (
+        there.0,
+        left_alone c.args.domains.now J c.args.number c.in-There.radio c.args.hint.now c.args.before.now c.args.after.now there.1 led_before led_after same.0
+            (same.1 ∙ c.driver_after-driver.ensures),
+      );
 }
