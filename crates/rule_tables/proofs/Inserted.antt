@@ -9,7 +9,7 @@ use Rattle.rule_tables.specs.Databases.{IsDb, IsDomain, HasCode}
 use Rattle.rule_tables.proofs.InOrder.{All-insert, AllPairs-insert}
 
 -- the second byte of a code is below 256
-pub low_byte : (c : Alpha2) → IsCode c → c.b < 256
+low_byte : (c : Alpha2) → IsCode c → c.b < 256
 low_byte c (inl letters) = omega (arith, letters.1)
 low_byte c (inr zeros) = omega (arith, zeros.1)
 
@@ -17,13 +17,12 @@ low_byte c (inr zeros) = omega (arith, zeros.1)
 same_bytes : (a a' b b' : ℕ) → a ≡ a' → b ≡ b' → ◌≡◌ {A = Alpha2} (record { a = a; b = b }) (record { a = a'; b = b' })
 same_bytes a a' b b' p q = cc
 
--- two bytes of one key are one code
-pub same_key_bytes : (c d : Alpha2) → c.b < 256 → d.b < 256 → key c ≡ key d → c ≡ d
-same_key_bytes c d low_c low_d same = same_bytes c.a d.a c.b d.b (omega arith) (omega arith)
-
 -- codes of one key are one
 pub same_key : (c d : Alpha2) → IsCode c → IsCode d → key c ≡ key d → c ≡ d
-same_key c d is_c is_d same = same_key_bytes c d (low_byte c is_c) (low_byte d is_d) same
+same_key c d is_c is_d same =
+    let low_c = low_byte c is_c in
+    let low_d = low_byte d is_d in
+    same_bytes c.a d.a c.b d.b (omega arith) (omega arith)
 
 -- the domains from a place on have keys from that place's key on
 from_place : (ds : List Domain) → IsDb ds → (i k : ℕ) (d : Domain) → i ≤ k → k < length ds → key (get_or ds i d).alpha2 ≤ key (get_or ds k d).alpha2

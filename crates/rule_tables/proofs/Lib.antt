@@ -6,4 +6,4 @@ pub mod Dropped
 pub mod Widths
 pub mod Governed
 pub mod Runs
-pub mod Searched
+pub mod Sought

@@ -1,6 +1,6 @@
 //! A database: domains in ascending order of their codes.
 
-ghost use Rattle.std.specs.Prelude.{◌≡◌, ◌==◌, ◌<◌, ◌≤◌, ℕ, [], Contains, IfErr, OnErr, OnOk, MatchOption, length, slice_get, slice_index_or};
+ghost use Rattle.std.specs.Prelude.{◌≡◌, ◌==◌, ◌<◌, ◌≤◌, ℕ, [], AllPairs, Contains, IfErr, OnErr, OnOk, MatchOption, length, slice_get, slice_index_or};
 ghost use Rattle.std.specs.Option.{option_copied};
 ghost use Rattle.freq_range.specs.First.{IsFirst};
 ghost use Rattle.rule_tables.specs.Code.{key};
@@ -10,7 +10,6 @@ ghost use Rattle.rule_tables.specs.declared.domain.Domain.{Domain};
 
 use crate::code::Alpha2;
 use crate::domain::{Domain, DomainFault};
-use crate::search::domain_with;
 use freq_range::{Rule, contains_rule};
 use reg_lists::OutOfMemory;
 use std::alloc::{AllocFailed, Global};
@@ -71,27 +70,34 @@ fn first_repeated(rules: &[Rule]) -> Option<usize>
 
 /// The place of the first domain whose code isn't below this one, or the number of domains.
 fn place_of(domains: &[Domain], alpha2: &Alpha2) -> usize
+    requires { AllPairs (λ c d. key c.alpha2 < key d.alpha2) domains.now }
     ensures within { result ≤ length domains.now }
     ensures below { (k : ℕ) (d : Domain) → k < result → key (slice_index_or domains.now k d).alpha2 < key alpha2.now }
     ensures at { (d : Domain) → result < length domains.now → key alpha2.now ≤ key (slice_index_or domains.now result d).alpha2 }
 {
-    for (k, domain) in domains.iter().enumerate() {
-        if domain.alpha2.key() >= alpha2.key() {
-            return k;
-        }
-    }
-    domains.len()
+    let key = alpha2.key();
+    domains.partition_point(|domain| domain.alpha2.key() < key)
 }
 
-/// The first domain of this code.
+/// The domain of this code.
 fn find_in(domains: &[Domain], alpha2: Alpha2) -> Option<&Domain>
+    requires { AllPairs (λ c d. key c.alpha2 < key d.alpha2) domains.now }
     ensures { MatchOption result (HasCode domains.now alpha2 → ⊥) (λ d. Contains domains.now d.now × (d.now.alpha2 ≡ alpha2)) }
 {
-    domains.iter().find(|domain| domain.alpha2.is_same(&alpha2))
+    let place = place_of(domains, &alpha2);
+    if place == domains.len() {
+        return None;
+    }
+    let domain = &domains[place];
+    if !domain.alpha2.is_same(&alpha2) {
+        return None;
+    }
+    Some(domain)
 }
 
 /// Why the domain isn't taken among these, if anything speaks against it.
 fn refusal(domains: &[Domain], domain: &Domain) -> Option<DbInsertFault>
+    requires { AllPairs (λ c d. key c.alpha2 < key d.alpha2) domains.now }
     ensures { MatchOption result
         ((HasCode domains.now domain.now.alpha2 → ⊥) × IsDomain domain.now)
         (IsInsertFault domains.now domain.now) }
@@ -159,7 +165,7 @@ impl Db {
     pub fn find(&self, alpha2: Alpha2) -> Option<&Domain>
         ensures { MatchOption result (HasCode self.now alpha2 → ⊥) (λ d. Contains self.now d.now × (d.now.alpha2 ≡ alpha2)) }
     {
-        domain_with(self.domains.as_slice(), alpha2)
+        find_in(self.domains.as_slice(), alpha2)
     }
 
     /// How many domains there are.

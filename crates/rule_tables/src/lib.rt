@@ -8,7 +8,6 @@ mod domain;
 mod file_fault;
 mod govern;
 mod run_widths;
-mod search;
 mod shared;
 mod width;
 mod world;
