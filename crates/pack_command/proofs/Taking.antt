@@ -1,12 +1,11 @@
 -- Bytes that are taken into the cutter: each line is packed as its newline comes, and the last one at the end.
-use Rattle.std.proofs.Common.{◌≡◌, ℕ, ◌+◌, ◌<◌, ◌≤◌, ◌==◌, Bool, true, false, List, [], ◌∷◌, ◌++◌, take, drop, get_or, length, length-append, Option, inl, inr, refl, sym, subst, arith}
+use Rattle.std.proofs.Common.{◌≡◌, ℕ, ◌+◌, ◌<◌, ◌≤◌, ◌==◌, Bool, true, false, List, [], ◌∷◌, ◌++◌, take, drop, get_or, add-one, drop-cons, take-append-drop, append_assoc, length, length-append, Option, inl, inr, refl, sym, ap, subst, ◌∙◌, arith}
 use Rattle.iw_commands.specs.Cutting.{IsCut, OpenLine, opened, with_byte}
 use Rattle.iw_commands.specs.Scripts.{script_lines}
 use Rattle.iw_commands.specs.declared.cutter.Cut.{Cut}
 use Rattle.db_commands.specs.Devices.{StreamAround}
 use Rattle.script_run.specs.inner.Turns.{IsCutOf, IsHeld}
 use Rattle.script_run.proofs.Cutting.{cut_ended, cut_held, cut_line, cut_more, cut_none, ended_here, held_more, held_none, lines_at_end, lines_at_newline}
-use Rattle.script_run.proofs.Taking.{bytes_whole}
 use Rattle.pack_command.specs.Packing.{AreAllPacked}
 use Rattle.pack_command.specs.inner.Steps.{HasLineRoom, IsPackedTo, IsPackedSoFar, IsPackStop, StopsAmong}
 use Rattle.pack_command.specs.declared.packing.Progress.{Progress}
@@ -56,6 +55,17 @@ pub stops_line : (bytes : List ℕ) (b : ℕ) (more : List ℕ) (cutter marked :
 stops_line bytes b more cutter marked cut mid output stop progress ends is cuts stops so =
     let (rest, last, are) = ended_here bytes so.lines so.begun b ends so.cut more in
     (so.lines ++ so.begun ∷ rest, last, are, stops so.lines so.begun rest (cut_marked so.begun cutter marked b cut ends is so.holds cuts) so.so_far)
+
+-- ---- the bytes of a piece
+
+pub bytes_more : (taken piece : List ℕ) (i b : ℕ) → take (i + 1) piece ≡ take i piece ++ b ∷ [] → (taken ++ take i piece) ++ b ∷ [] ≡ taken ++ take (i + 1) piece
+bytes_more taken piece i b more = append_assoc taken (take i piece) (b ∷ []) ∙ ap (λ xs. taken ++ xs) (sym more)
+
+bytes_whole : (taken piece : List ℕ) (i b : ℕ) → i < length piece → b ≡ get_or piece i 0 → (taken ++ take i piece) ++ b ∷ drop (i + 1) piece ≡ taken ++ piece
+bytes_whole taken piece i b within is =
+    append_assoc taken (take i piece) (b ∷ drop (i + 1) piece)
+    ∙ ap (λ xs. taken ++ xs) (ap (λ x. take i piece ++ x ∷ drop (i + 1) piece) is ∙ ap (λ n. take i piece ++ get_or piece i 0 ∷ drop n piece) (add-one i)
+    ∙ ap (λ xs. take i piece ++ xs) (sym (drop-cons piece i 0 within)) ∙ take-append-drop i piece)
 
 -- the packing stopped at a byte of the piece
 pub stops_whole : (taken piece : List ℕ) (i b : ℕ) (output : StreamAround) (stop : Stop) → i < length piece → b ≡ get_or piece i 0

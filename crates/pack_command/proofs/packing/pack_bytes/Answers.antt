@@ -1,9 +1,9 @@
 use Rattle.std.proofs.Common.{◌++◌, ◌+◌, arith, drop, le_trans, refl, subst, take}
 use Rattle.std.proofs.lemmas.List.{take_more}
 use Rattle.db_commands.specs.Devices.{around}
-use Rattle.script_run.proofs.Taking.{bytes_more, handed_on}
+use Rattle.script_run.proofs.Taking.{handed_on}
 use Rattle.pack_command.specs.inner.Steps.{IsPackedSoFar}
-use Rattle.pack_command.proofs.Taking.{stops_whole}
+use Rattle.pack_command.proofs.Taking.{bytes_more, stops_whole}
 use Rattle.pack_command.proofs.packing.pack_bytes.Goals as goal
 
 pub returns-in_err-pack_byte-clause-stopped : goal.returns-in_err-pack_byte-clause-stopped
