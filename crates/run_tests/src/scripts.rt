@@ -174,6 +174,7 @@ refused: driver failed
 > iw dev ap0 info
 ap0 1 phy0 __ap
 \ttxpower auto
+\tidle
 > iw dev ap0 cac trigger freq 5260
 checking 60000
 ",
